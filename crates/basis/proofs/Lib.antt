@@ -1,1 +1,3 @@
 pub mod TestLaws
+pub mod LoopLaws
+pub mod ListLaws

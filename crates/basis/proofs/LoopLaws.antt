@@ -1,0 +1,126 @@
+-- The laws of a loop over a list: what a test of `specs/Test.antt` says where the loop has come to index i. Assumes nothing.
+--     any-none, any-found, any-more       no entry from i on passes; entry i passes; it does not, and the loop goes on
+--     find-none-left, find-found, find-more     the same of the first entry that passes
+--     number-snoc, all-number                   one entry more; all pass exactly when as many as there are
+--     true-T, T-true, false-T, T-false          a test as an equation and as a fact
+use mathlib.Core.Path.{_≡_, refl, sym, ap, _∙_}
+use mathlib.Core.Bool.{Bool, true, false, cond}
+use mathlib.Core.List.{List, [], _∷_, _++_}
+use mathlib.Core.Option.{Option, none, some}
+use Prim.Native.Nat.{ℕ, zero, suc, _+_, _≤_, _<_}
+use native.Mathlib.Omega.{arith}
+use native.Mathlib.Numerals.{add-one}
+use lib.Dec.{T, eqb, eqb·suc-suc}
+use lib.ListN.{length, getD, drop, drop-of-length-le}
+use lib.Seq.{drop-cons}
+use borrow.Author.Tests.{eq-eqb, ne-eqb}
+use Rattle.basis.specs.Test.{_and_, _or_, non, any, all, number, keep, find, from}
+
+pub true-T : (b : Bool) → b ≡ true → T b
+true-T true e = tt
+true-T false e = absurd (let z : _≡_ {A = ℕ} 0 1 = cc in omega arith)
+
+pub T-true : (b : Bool) → T b → b ≡ true
+T-true true t = refl
+T-true false t = absurd t
+
+pub false-T : (b : Bool) → b ≡ false → T b → ⊥
+false-T true e t = let z : _≡_ {A = ℕ} 0 1 = cc in omega arith
+false-T false e t = t
+
+pub T-false : (b : Bool) → (T b → ⊥) → b ≡ false
+T-false true h = absurd (h tt)
+T-false false h = refl
+
+pub or-none : (b : Bool) → (b or false) ≡ b
+unfolding _or_
+or-none true = refl
+or-none false = refl
+
+pub non-non : (b : Bool) → non (non b) ≡ b
+unfolding non
+non-non true = refl
+non-non false = refl
+
+pub non-true : (b : Bool) → non b ≡ true → b ≡ false
+unfolding non
+non-true true e = sym e
+non-true false e = refl
+
+pub non-false : (b : Bool) → non b ≡ false → b ≡ true
+unfolding non
+non-false true e = refl
+non-false false e = sym e
+
+module _ {A : Type 0} (p : A → Bool) (l : List A) where
+  any-step : (i : ℕ) (d : A) → i < length l → any p (drop i l) ≡ (p (getD l i d) or any p (drop (i + 1) l))
+  unfolding any
+  any-step i d h = rw (add-one, drop-cons l i d)
+
+  pub any-none : (i : ℕ) → any p l ≡ any p (drop i l) → length l ≤ i → false ≡ any p l
+  unfolding any
+  any-none i e h = sym (e ∙ rw (drop-of-length-le l {i = i} h))
+
+  pub any-found : (i : ℕ) (d : A) → any p l ≡ any p (drop i l) → i < length l → p (getD l i d) ≡ true → true ≡ any p l
+  unfolding _or_
+  any-found i d e h y = sym (e ∙ any-step i d h ∙ ap (λ (b : Bool). b or any p (drop (i + 1) l)) y)
+
+  pub any-more : (i : ℕ) (d : A) → any p l ≡ any p (drop i l) → i < length l → p (getD l i d) ≡ false → any p l ≡ any p (drop (i + 1) l)
+  unfolding _or_
+  any-more i d e h y = e ∙ any-step i d h ∙ ap (λ (b : Bool). b or any p (drop (i + 1) l)) y
+
+  find-step : (i : ℕ) (d : A) → i < length l → find p (drop i l) ≡ keep (p (getD l i d)) (getD l i d) (find p (drop (i + 1) l))
+  unfolding find
+  find-step i d h = rw (add-one, drop-cons l i d)
+
+  pub find-none-left : (i : ℕ) → find p l ≡ find p (drop i l) → length l ≤ i → find p l ≡ none
+  unfolding find
+  find-none-left i e h = e ∙ rw (drop-of-length-le l {i = i} h)
+
+  pub find-found : (i : ℕ) (d : A) → find p l ≡ find p (drop i l) → i < length l → p (getD l i d) ≡ true → find p l ≡ some (getD l i d)
+  unfolding keep
+  find-found i d e h y = e ∙ find-step i d h ∙ ap (λ (b : Bool). keep b (getD l i d) (find p (drop (i + 1) l))) y
+
+  pub find-more : (i : ℕ) (d : A) → find p l ≡ find p (drop i l) → i < length l → p (getD l i d) ≡ false → find p l ≡ find p (drop (i + 1) l)
+  unfolding keep
+  find-more i d e h y = e ∙ find-step i d h ∙ ap (λ (b : Bool). keep b (getD l i d) (find p (drop (i + 1) l))) y
+
+module _ {A : Type 0} (p : A → Bool) where
+  pub number-snoc : (l : List A) (a : A) → number p (l ++ (a ∷ [])) ≡ cond (p a) (number p l + 1) (number p l)
+  unfolding number
+  number-snoc [] a = refl
+  number-snoc (b ∷ l) a = go (p b) (p a) (number-snoc l a)
+    where
+      go : (x y : Bool) → number p (l ++ (a ∷ [])) ≡ cond y (number p l + 1) (number p l)
+          → cond x (suc (number p (l ++ (a ∷ [])))) (number p (l ++ (a ∷ []))) ≡ cond y (cond x (suc (number p l)) (number p l) + 1) (cond x (suc (number p l)) (number p l))
+      go true true e = omega arith
+      go true false e = ap suc e
+      go false y e = e
+
+  pub number-le : (l : List A) → number p l ≤ length l
+  unfolding number
+  number-le [] = omega arith
+  number-le (a ∷ l) = go (p a) (number-le l)
+    where
+      go : (x : Bool) → number p l ≤ length l → cond x (suc (number p l)) (number p l) ≤ suc (length l)
+      go true h = omega arith
+      go false h = omega arith
+
+  pub number-both : (l : List A) → number p l + number (λ (a : A). non (p a)) l ≡ length l
+  unfolding number non
+  number-both [] = refl
+  number-both (a ∷ l) = go (p a) (number-both l)
+    where
+      go : (x : Bool) → number p l + number (λ (b : A). non (p b)) l ≡ length l
+          → cond x (suc (number p l)) (number p l) + cond (non x) (suc (number (λ (b : A). non (p b)) l)) (number (λ (b : A). non (p b)) l) ≡ suc (length l)
+      go true e = omega arith
+      go false e = omega arith
+
+  pub all-number : (l : List A) → all p l ≡ eqb (number p l) (length l)
+  unfolding all number _and_
+  all-number [] = refl
+  all-number (a ∷ l) = go (p a) (all-number l) (number-le l)
+    where
+      go : (x : Bool) → all p l ≡ eqb (number p l) (length l) → number p l ≤ length l → (x and all p l) ≡ eqb (cond x (suc (number p l)) (number p l)) (suc (length l))
+      go true e h = e ∙ sym (eqb·suc-suc (number p l) (length l))
+      go false e h = sym (ne-eqb _ _ (λ (q : number p l ≡ suc (length l)). omega arith))

@@ -1,0 +1,13 @@
+-- `format::layout::event_bytes` meets its contract by computation. Assumes nothing.
+use mathlib.Core.Path.{refl}
+use Rattle.format.specs.Layout.{eventBytes}
+use Rattle.format.proofs.layout.event_bytes.Statement.{statement}
+use Rattle.format.proofs.layout.event_bytes.Tie as tie
+
+-- src/layout.rt:17:1
+returns : tie.Need-returns
+unfolding eventBytes
+returns c = refl
+
+pub event-bytes-spec : {M : Type 1} → statement M
+event-bytes-spec = tie.close (tie.spec returns)

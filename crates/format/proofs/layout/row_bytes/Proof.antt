@@ -1,0 +1,13 @@
+-- `format::layout::row_bytes` meets its contract by computation. Assumes nothing.
+use mathlib.Core.Path.{refl}
+use Rattle.format.specs.Layout.{rowBytes}
+use Rattle.format.proofs.layout.row_bytes.Statement.{statement}
+use Rattle.format.proofs.layout.row_bytes.Tie as tie
+
+-- src/layout.rt:24:1
+returns : tie.Need-returns
+unfolding rowBytes
+returns c = refl
+
+pub row-bytes-spec : {M : Type 1} → statement M
+row-bytes-spec = tie.close (tie.spec returns)

@@ -1,0 +1,27 @@
+-- `format::tests::covers` meets its contract by computation. Assumes nothing.
+use mathlib.Core.Path.{refl}
+use Rattle.basis.specs.Test.{_and_}
+use Rattle.format.specs.Shape.{covers}
+use borrow.Author.Needs.{needs}
+use Rattle.format.proofs.tests.covers.Statement.{statement}
+use Rattle.format.proofs.tests.covers.Tie as tie
+
+-- src/tests.rt:21:36
+cast-result : tie.Need-cast-result
+cast-result c = search needs
+
+-- src/tests.rt:21:53
+cast-result-2 : tie.Need-cast-result-2
+cast-result-2 c = search needs
+
+-- src/tests.rt:21:36
+add-result : tie.Need-add-result
+add-result c = search needs
+
+-- src/tests.rt:18:1
+returns : tie.Need-returns
+unfolding covers _and_
+returns c = refl
+
+pub covers-spec : {M : Type 1} → statement M
+covers-spec = tie.close (tie.spec cast-result cast-result-2 add-result returns)

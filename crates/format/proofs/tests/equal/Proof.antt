@@ -1,0 +1,14 @@
+-- `format::tests::equal` meets its contract by computation. Assumes nothing.
+use mathlib.Core.Path.{refl}
+use Rattle.basis.specs.Test.{_and_}
+use Rattle.format.specs.Shape.{equal}
+use Rattle.format.proofs.tests.equal.Statement.{statement}
+use Rattle.format.proofs.tests.equal.Tie as tie
+
+-- src/tests.rt:34:1
+returns : tie.Need-returns
+unfolding equal _and_
+returns c = refl
+
+pub equal-spec : {M : Type 1} → statement M
+equal-spec = tie.close (tie.spec returns)

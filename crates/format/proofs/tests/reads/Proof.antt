@@ -1,0 +1,14 @@
+-- `format::tests::reads` meets its contract by computation. Assumes nothing.
+use mathlib.Core.Path.{refl}
+use Rattle.basis.specs.Test.{_or_}
+use Rattle.format.specs.Shape.{reads}
+use Rattle.format.proofs.tests.reads.Statement.{statement}
+use Rattle.format.proofs.tests.reads.Tie as tie
+
+-- src/tests.rt:6:1
+returns : tie.Need-returns
+unfolding reads _or_
+returns c = refl
+
+pub reads-spec : {M : Type 1} → statement M
+reads-spec = tie.close (tie.spec returns)

@@ -1,0 +1,14 @@
+-- `format::tests::writes` meets its contract by computation. Assumes nothing.
+use mathlib.Core.Path.{refl}
+use Rattle.basis.specs.Test.{_or_}
+use Rattle.format.specs.Shape.{writes}
+use Rattle.format.proofs.tests.writes.Statement.{statement}
+use Rattle.format.proofs.tests.writes.Tie as tie
+
+-- src/tests.rt:12:1
+returns : tie.Need-returns
+unfolding writes _or_
+returns c = refl
+
+pub writes-spec : {M : Type 1} → statement M
+writes-spec = tie.close (tie.spec returns)

@@ -1,0 +1,34 @@
+-- The limits of a sheet (01, "The sheet"), named once.
+--     maxBytes      the longest sheet
+--     maxAgents     the most agents                 maxMemory     the most bytes of memory
+--     maxInits      the most inits                  maxOthers     the most other events, markers included
+--     maxPairs      the most pairs                  slots         the places for events that a table has: the bits of a mask
+-- Assumes nothing.
+use Prim.Native.Nat.{ℕ}
+
+-- 01: "At most 4,096 bytes."
+abbrev pub maxBytes : ℕ
+maxBytes = 4096
+
+-- 01: "agents (1 to 8), memory size in bytes (1 to 64)"
+abbrev pub maxAgents : ℕ
+maxAgents = 8
+
+abbrev pub maxMemory : ℕ
+maxMemory = 64
+
+-- 01: "width 1 to 64. .. At most 4." (inits)
+abbrev pub maxInits : ℕ
+maxInits = 4
+
+-- 01: "at most 16 together, markers included"
+abbrev pub maxOthers : ℕ
+maxOthers = 16
+
+-- 01: "pairs rise strictly; at most 32"
+abbrev pub maxPairs : ℕ
+maxPairs = 32
+
+-- ours: a table of events has a place for each bit of a mask, so that no type holds a limit
+abbrev pub slots : ℕ
+slots = 32

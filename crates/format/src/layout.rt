@@ -1,0 +1,126 @@
+// What stands where in the value of a field.
+use crate::Head;
+use crate::Pair;
+use crate::Row;
+use crate::Shape;
+use crate::field;
+use crate::tests::covers;
+use crate::tests::reads;
+ghost use mathlib.Core.Path.{_≡_};
+ghost use lib.Dec.{eqb};
+ghost use Rattle.basis.specs.Test.{_and_, _or_};
+ghost use Rattle.format.specs.Event.{saw, wrote};
+ghost use Rattle.format.specs.Shape.{divides, tearOf};
+ghost use Rattle.format.specs.Layout.{headOf, eventBytes, agentOf, shapeOf, eventOf, rowBytes, rowOf, pairOf};
+
+// The bytes of an event's value before its data.
+pub fn event_bytes(edition: u8) -> u8
+    ensures { λ r. ⌜ r ≡ eventBytes edition ⌝ }
+{
+    5
+}
+
+// The bytes of a row's value.
+pub fn row_bytes(edition: u8) -> u8
+    ensures { λ r. ⌜ r ≡ rowBytes edition ⌝ }
+{
+    3
+}
+
+pub fn head_of(v: &[u8]) -> Head
+    ensures { λ r. ⌜ r ≡ headOf (now (v .entry)) ⌝ }
+{
+    Head {
+        edition: field::byte(v, 0),
+        agents: field::byte(v, 1),
+        size: field::byte(v, 2),
+    }
+}
+
+// A width of 1, 2 or 4 that divides the start.
+fn unbroken(start: u8, width: u8) -> bool
+    ensures { λ r. ⌜ r ≡ ((eqb width 1 or eqb width 2 or eqb width 4) and divides width start) ⌝ }
+{
+    match width {
+        1 => true,
+        2 => start % 2 == 0,
+        4 => start % 4 == 0,
+        _ => false,
+    }
+}
+
+fn tear_of(kind: u8, mode: u8, start: u8, width: u8) -> u8
+    ensures { λ r. ⌜ r ≡ tearOf kind mode start width ⌝ }
+{
+    let free = (kind != 4) & ((mode == 2) | ((mode == 1) & unbroken(start, width)));
+    if free { 1 } else { 0 }
+}
+
+pub fn shape_of(v: &[u8]) -> Shape
+    ensures { λ r. ⌜ r ≡ shapeOf (now (v .entry)) ⌝ }
+{
+    let kind = field::byte(v, 1);
+    let mode = field::byte(v, 2);
+    let start = field::byte(v, 3);
+    let width = field::byte(v, 4);
+    Shape {
+        kind: kind,
+        mode: mode,
+        start: start,
+        width: width,
+        tear: tear_of(kind, mode, start, width),
+    }
+}
+
+pub fn row_of(v: &[u8]) -> Row
+    ensures { λ r. ⌜ r ≡ rowOf (now (v .entry)) ⌝ }
+{
+    Row {
+        reader: field::byte(v, 0),
+        address: field::byte(v, 1),
+        writer: field::byte(v, 2),
+    }
+}
+
+pub fn pair_of(v: &[u8]) -> Pair
+    ensures { λ r. ⌜ r ≡ pairOf (now (v .entry)) ⌝ }
+{
+    Pair {
+        first: field::byte(v, 0),
+        second: field::byte(v, 1),
+    }
+}
+
+// The byte that the event of a value saw at an address; 0 where it reads none.
+pub fn saw(edition: u8, v: &[u8], n: u8) -> u8
+    ensures { λ r. ⌜ r ≡ saw (eventOf edition (now (v .entry))) n ⌝ }
+{
+    let a = shape_of(v);
+    let held = covers(a, n);
+    if !held {
+        return 0;
+    }
+    let seen = reads(a);
+    if !seen {
+        return 0;
+    }
+    field::byte(v, event_bytes(edition) as usize + (n - a.start) as usize)
+}
+
+// The byte that it wrote there; 0 where it writes none.
+pub fn wrote(edition: u8, v: &[u8], n: u8) -> u8
+    ensures { λ r. ⌜ r ≡ wrote (eventOf edition (now (v .entry))) n ⌝ }
+{
+    let a = shape_of(v);
+    let kind = a.kind;
+    let held = covers(a, n);
+    if !held {
+        return 0;
+    }
+    let from = event_bytes(edition) as usize + (n - a.start) as usize;
+    match kind {
+        2 => field::byte(v, from),
+        3 => field::byte(v, from + a.width as usize),
+        _ => 0,
+    }
+}

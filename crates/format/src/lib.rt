@@ -1,0 +1,30 @@
+// The format of sheets: what stands in a field, and what an access is.
+pub mod field;
+pub mod layout;
+pub mod tests;
+
+// The shape of an access: all of it but its bytes. tear: 0 may tear, 1 tear-free.
+pub struct Shape {
+    pub kind: u8,
+    pub mode: u8,
+    pub start: u8,
+    pub width: u8,
+    pub tear: u8,
+}
+
+pub struct Head {
+    pub edition: u8,
+    pub agents: u8,
+    pub size: u8,
+}
+
+pub struct Row {
+    pub reader: u8,
+    pub address: u8,
+    pub writer: u8,
+}
+
+pub struct Pair {
+    pub first: u8,
+    pub second: u8,
+}

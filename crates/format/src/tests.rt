@@ -1,0 +1,38 @@
+// Tests of one access, and of two.
+use crate::Shape;
+ghost use mathlib.Core.Path.{_≡_};
+ghost use Rattle.format.specs.Shape.{reads, writes, covers, overlap, equal};
+
+pub fn reads(a: Shape) -> bool
+    ensures { λ r. ⌜ r ≡ reads a ⌝ }
+{
+    (a.kind == 1) | (a.kind == 3)
+}
+
+pub fn writes(a: Shape) -> bool
+    ensures { λ r. ⌜ r ≡ writes a ⌝ }
+{
+    (a.kind == 2) | (a.kind == 3)
+}
+
+pub fn covers(a: Shape, n: u8) -> bool
+    ensures { λ r. ⌜ r ≡ covers a n ⌝ }
+{
+    (a.start <= n) & ((n as u16) < a.start as u16 + a.width as u16)
+}
+
+// Sums of two bytes are taken in 16 bits, so that none wraps.
+pub fn overlap(a: Shape, b: Shape) -> bool
+    ensures { λ r. ⌜ r ≡ overlap a b ⌝ }
+{
+    let a_end = a.start as u16 + a.width as u16;
+    let b_end = b.start as u16 + b.width as u16;
+    let meet = ((a.start as u16) < b_end) & ((b.start as u16) < a_end);
+    (0 < a.width) & ((0 < b.width) & meet)
+}
+
+pub fn equal(a: Shape, b: Shape) -> bool
+    ensures { λ r. ⌜ r ≡ equal a b ⌝ }
+{
+    (a.start == b.start) & (a.width == b.width)
+}

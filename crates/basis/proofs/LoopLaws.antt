@@ -2,6 +2,7 @@
 --     any-none, any-found, any-more       no entry from i on passes; entry i passes; it does not, and the loop goes on
 --     find-none-left, find-found, find-more     the same of the first entry that passes
 --     number-snoc, all-number                   one entry more; all pass exactly when as many as there are
+--     and-holds, and-fails, or-holds, or-fails  a test that is known, on the left
 --     true-T, T-true, false-T, T-false          a test as an equation and as a fact
 use mathlib.Core.Path.{_≡_, refl, sym, ap, _∙_}
 use mathlib.Core.Bool.{Bool, true, false, cond}
@@ -36,6 +37,23 @@ pub or-none : (b : Bool) → (b or false) ≡ b
 unfolding _or_
 or-none true = refl
 or-none false = refl
+
+-- a test that is known, on the left
+pub and-holds : (a b : Bool) → a ≡ true → (a and b) ≡ b
+unfolding _and_
+and-holds a b h = ap (λ (x : Bool). x and b) h
+
+pub and-fails : (a b : Bool) → a ≡ false → (a and b) ≡ false
+unfolding _and_
+and-fails a b h = ap (λ (x : Bool). x and b) h
+
+pub or-holds : (a b : Bool) → a ≡ true → (a or b) ≡ true
+unfolding _or_
+or-holds a b h = ap (λ (x : Bool). x or b) h
+
+pub or-fails : (a b : Bool) → a ≡ false → (a or b) ≡ b
+unfolding _or_
+or-fails a b h = ap (λ (x : Bool). x or b) h
 
 pub non-non : (b : Bool) → non (non b) ≡ b
 unfolding non

@@ -1,7 +1,7 @@
 -- The laws of specs/Event.antt for an event with one access. Assumes nothing.
 --     access-hit, access-miss       the access at a byte that it covers, that it does not
 --     readsAt-one, writesAt-one     what the lookup says of it
---     readsSome-one, isMarker-one, meets-one
+--     readsSome-one, isMarker-one, meets-one;  readsAt-nobody, writesAt-nobody, isMarker-nobody
 use mathlib.Core.Path.{_≡_, refl, sym, ap, _∙_}
 use mathlib.Core.Bool.{Bool, true, false}
 use mathlib.Core.List.{List, [], _∷_}
@@ -12,11 +12,24 @@ use Rattle.basis.specs.Test.{_and_, any}
 use Rattle.basis.proofs.LoopLaws.{or-none}
 use Rattle.format.specs.declared.Shape.{Shape}
 use Rattle.format.specs.Shape.{noShape, reads, writes, marks, covers, overlap}
-use Rattle.format.specs.Event.{Access, Event, nothing, lookup, accessAt, shapeAt, readsAt, writesAt, saw, wrote, readsSome, isMarker, meets}
+use Rattle.format.specs.Event.{Access, Event, nothing, nobody, lookup, accessAt, shapeAt, readsAt, writesAt, saw, wrote, readsSome, isMarker, meets}
 
 pub covers-nothing : (n : ℕ) → covers noShape n ≡ false
 unfolding covers _and_
 covers-nothing n = rw (leb·zero n, leb·suc-zero n)
+
+-- nobody does nothing
+pub readsAt-nobody : (n : ℕ) → readsAt nobody n ≡ false
+unfolding readsAt shapeAt accessAt lookup _and_
+readsAt-nobody n = rw (covers-nothing n)
+
+pub writesAt-nobody : (n : ℕ) → writesAt nobody n ≡ false
+unfolding writesAt shapeAt accessAt lookup _and_
+writesAt-nobody n = rw (covers-nothing n)
+
+pub isMarker-nobody : isMarker nobody ≡ false
+unfolding isMarker any
+isMarker-nobody = refl
 
 -- the event with one access
 abbrev pub one : ℕ → Access → Event

@@ -1,14 +1,14 @@
 -- What the reader hands over (01: "The reader of sheets is a separate crate below the judge; the judge sees only what the reader promises.").
 -- It is small: counts, and places in the sheet. `Sheet` and `Outcome` are the source's own structs. Laws: proofs/HandedLaws.antt.
 --     spaced                        things a gap apart
---     eventsOn, rowsOn, pairsOn     what the counts and places describe, beside the sheet's bytes
+--     eventsIn, rowsIn, pairsIn     what the counts and places describe, beside the sheet's bytes
 --     execution s x at              the execution that they describe
 --     Laid s x at                   each place is where 01 puts the field
 --     Handed s o                    o is the reader's outcome for the sheet s
 -- Assumes nothing.
 use mathlib.Core.Path.{_≡_}
 use mathlib.Core.List.{List, [], _∷_, map}
-use Prim.Native.Nat.{ℕ, zero, suc, _+_, _-_, _<_, _≤_}
+use Prim.Native.Nat.{ℕ, zero, suc, _+_, _-_, _*_, _<_, _≤_}
 use lib.ListN.{length, getD, take, drop, replicate}
 use Rattle.format.specs.declared.Row.{Row}
 use Rattle.format.specs.declared.Pair.{Pair}
@@ -47,24 +47,39 @@ rowsOn s edition p n = spaced (rowAt s) (rowGap edition) p n
 unfoldable pub pairsOn : List ℕ → ℕ → ℕ → List Pair
 pairsOn s p n = spaced (pairAt s) pairGap p n
 
+abbrev pub eventsIn : List ℕ → Sheet → List ℕ → List Event
+eventsIn s x at = eventsOn s (x .head .edition) (x .events) at
+
+abbrev pub rowsIn : List ℕ → Sheet → List Row
+rowsIn s x = rowsOn s (x .head .edition) (x .«rows_at») (x .rows)
+
+abbrev pub pairsIn : List ℕ → Sheet → List Pair
+pairsIn s x = pairsOn s (x .«pairs_at») (x .pairs)
+
 abbrev pub execution : List ℕ → Sheet → List ℕ → Execution
-execution s x at =
-    record {
-      head = x .head;
-      events = eventsOn s (x .head .edition) (x .events) at;
-      rows = rowsOn s (x .head .edition) (x .«rows_at») (x .rows);
-      pairs = pairsOn s (x .«pairs_at») (x .pairs);
-    }
+execution s x at = record { head = x .head; events = eventsIn s x at; rows = rowsIn s x; pairs = pairsIn s x }
+
+-- row number j and pair number j
+abbrev pub rowNo : List ℕ → Sheet → ℕ → Row
+rowNo s x j = rowAt s (x .«rows_at» + j * rowGap (x .head .edition))
+
+abbrev pub pairNo : List ℕ → Sheet → ℕ → Pair
+pairNo s x j = pairAt s (x .«pairs_at» + j * pairGap)
 
 -- the head is field 0, event e is field 1 + e, and rows and pairs follow; places that no event uses are 0
 pub record Laid (s : List ℕ) (x : Sheet) (at : List ℕ) : Type 0 where
   pub size : length at ≡ slots
   pub few : x .events ≤ slots
-  pub inits : x .inits ≡ inits (eventsOn s (x .head .edition) (x .events) at)
+  pub inits : x .inits ≡ inits (eventsIn s x at)
   pub places : (e : ℕ) → e < x .events → getD at e 0 ≡ fieldPlace s (suc e)
   pub unused : drop (x .events) at ≡ replicate (slots - x .events) 0
   pub rows-at : x .«rows_at» ≡ fieldPlace s (suc (x .events))
   pub pairs-at : x .«pairs_at» ≡ fieldPlace s (suc (x .events + x .rows))
+
+-- between two fields the places hold the events so far, and their inits are counted
+pub record Counted (s : List ℕ) (x : Sheet) (at : List ℕ) : Type 0 where
+  pub room : x .events ≤ length at
+  pub inits : x .inits ≡ inits (eventsIn s x at)
 
 -- what stands beside a refusal
 abbrev pub blankSheet : Sheet

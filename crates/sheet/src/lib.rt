@@ -1,6 +1,11 @@
 // The reader of sheets: any bytes become a refusal, by number and place, or a whole sheet. The types that it hands over.
 use format::Head;
 
+mod content;
+pub mod entry;
+mod fault;
+pub mod reader;
+
 // What a sheet holds: its head, counts, and the places of the first row and the first pair.
 pub struct Sheet {
     pub head: Head,

@@ -1,0 +1,18 @@
+-- `sheet::content::init_formed` meets its contract, test by test. Assumes nothing.
+use Rattle.basis.specs.Test.{_and_}
+use Rattle.sheet.specs.Content.{initFormed}
+use borrow.Author.Needs.{needs}
+use Rattle.sheet.proofs.content.init_formed.Statement.{statement}
+use Rattle.sheet.proofs.content.init_formed.Tie as tie
+
+-- src/content.rt:40:37
+within-requires : tie.Need-within-requires
+within-requires c κs = search needs
+
+-- src/content.rt:37:1
+returns : tie.Need-returns
+unfolding initFormed _and_
+returns c = simp (c .within .ensures)
+
+pub init-formed-spec : {M : Type 1} → statement M
+init-formed-spec = tie.close (tie.spec within-requires returns)

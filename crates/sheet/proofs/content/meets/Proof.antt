@@ -1,0 +1,93 @@
+use borrow.Author.Needs.{needs}
+-- `sheet::content::meets` meets its contract. The invariant: the answer is the answer from event i on. The measure is what is left. Assumes nothing.
+use mathlib.Core.Path.{_≡_, refl, sym, ap, _∙_}
+use Prim.Native.Nat.{ℕ, _-_, _≤_, _<_}
+use denote.Ref.{now}
+use native.Mathlib.Omega.{arith}
+use lib.ListN.{length, drop}
+use Rattle.basis.specs.Test.{any}
+use Rattle.basis.proofs.LoopLaws.{any-none, any-found, any-more}
+use Rattle.format.specs.Event.{nobody, meets}
+use Rattle.format.specs.Execution.{eventNo}
+use Rattle.sheet.specs.Handed.{eventsOn, eventsIn}
+use Rattle.sheet.proofs.HandedLaws.{events-count, meets-at}
+use Rattle.sheet.proofs.content.meets.Statement.{statement}
+use Rattle.sheet.proofs.content.meets.Tie as tie
+
+abbrev Inv-loop : tie.InvT-loop
+Inv-loop s at a n i₀ i = (i ≤ n) × ((edition : ℕ) → any (meets a) (eventsOn s edition n at) ≡ any (meets a) (drop i (eventsOn s edition n at)))
+
+abbrev μ-loop : tie.MeasureT-loop
+μ-loop s at a n i₀ i = n - i
+
+-- src/content.rt:93:5
+loop-holds : tie.Need-loop-holds Inv-loop μ-loop
+loop-holds c = (omega arith, λ edition. refl)
+
+-- src/content.rt:94:20
+cast-p : tie.Need-cast-p Inv-loop μ-loop
+cast-p c = search needs
+
+-- src/content.rt:94:17
+mul-p : tie.Need-mul-p Inv-loop μ-loop
+mul-p c = search needs
+
+-- src/content.rt:94:17
+shared-slice-read-p : tie.Need-shared-slice-read-p Inv-loop μ-loop
+shared-slice-read-p c = omega (arith, c .before .before .before .before .before .pre)
+
+-- src/content.rt:95:37
+shape-at-requires : tie.Need-shape-at-requires Inv-loop μ-loop
+shape-at-requires c κs = search needs
+
+-- src/content.rt:95:13
+overlap-requires : tie.Need-overlap-requires Inv-loop μ-loop
+overlap-requires c κs = search needs
+
+-- src/content.rt:97:13
+returns : tie.Need-returns Inv-loop μ-loop
+unfolding eventNo
+returns c = let k = events-count (now (c .before .before .before .before .before .before .before .before .args .s)) (c .before .before .before .before .before .before .before .before .args .x .head .edition) (c .before .before .before .before .before .before .before .before .args .x .events) (now (c .before .before .before .before .before .before .before .before .args .at)) (c .before .before .before .before .before .before .before .before .pre) in
+    any-found (meets (c .before .before .before .before .before .before .before .before .args .a)) (eventsIn (now (c .before .before .before .before .before .before .before .before .args .s)) (c .before .before .before .before .before .before .before .before .args .x) (now (c .before .before .before .before .before .before .before .before .args .at))) (c .before .before .before .before .before .loop .i) nobody (c .before .before .before .before .before .loop .inv .1 (c .before .before .before .before .before .before .before .before .args .x .head .edition)) (rw k (c .before .before .before .before .loop-test .taken))
+    (meets-at (now (c .before .before .before .before .before .before .before .before .args .s)) (c .before .before .before .before .before .before .before .before .args .x .head .edition) (c .before .before .before .before .before .before .before .before .args .x .events) (now (c .before .before .before .before .before .before .before .before .args .at)) (c .before .before .before .before .before .loop .i) (c .before .before .before .before .loop-test .taken) (c .before .before .before .before .before .before .before .before .pre) (c .before .before .before .before .before .before .before .before .args .a) ∙ sym (rw (c .before .before .shape-at .ensures) at (c .before .overlap .ensures)) ∙ c .if1 .taken)
+
+-- src/content.rt:99:9
+add-i : tie.Need-add-i Inv-loop μ-loop
+add-i c = omega arith
+
+-- src/content.rt:93:5
+loop-less : tie.Need-loop-less Inv-loop μ-loop
+loop-less c = omega arith
+
+-- src/content.rt:93:5
+loop-again : tie.Need-loop-again Inv-loop μ-loop
+unfolding eventNo
+loop-again c = (
+  omega arith,
+  λ edition. let k = events-count (now (c .before .before .before .before .before .before .before .before .args .s)) edition (c .before .before .before .before .before .before .before .before .args .x .events) (now (c .before .before .before .before .before .before .before .before .args .at)) (c .before .before .before .before .before .before .before .before .pre) in
+      any-more (meets (c .before .before .before .before .before .before .before .before .args .a)) (eventsOn (now (c .before .before .before .before .before .before .before .before .args .s)) edition (c .before .before .before .before .before .before .before .before .args .x .events) (now (c .before .before .before .before .before .before .before .before .args .at))) (c .before .before .before .before .before .loop .i) nobody (c .before .before .before .before .before .loop .inv .1 edition) (rw k (c .before .before .before .before .loop-test .taken))
+      (meets-at (now (c .before .before .before .before .before .before .before .before .args .s)) edition (c .before .before .before .before .before .before .before .before .args .x .events) (now (c .before .before .before .before .before .before .before .before .args .at)) (c .before .before .before .before .before .loop .i) (c .before .before .before .before .loop-test .taken) (c .before .before .before .before .before .before .before .before .pre) (c .before .before .before .before .before .before .before .before .args .a) ∙ sym (rw (c .before .before .shape-at .ensures) at (c .before .overlap .ensures)) ∙ c .if1 .left),
+)
+
+-- src/content.rt:87:1
+returns-2 : tie.Need-returns-2 Inv-loop μ-loop
+returns-2 c = let k = events-count (now (c .before .before .before .before .args .s)) (c .before .before .before .before .args .x .head .edition) (c .before .before .before .before .args .x .events) (now (c .before .before .before .before .args .at)) (c .before .before .before .before .pre) in
+    any-none (meets (c .before .before .before .before .args .a)) (eventsIn (now (c .before .before .before .before .args .s)) (c .before .before .before .before .args .x) (now (c .before .before .before .before .args .at))) (c .before .loop .i) (c .before .loop .inv .1 (c .before .before .before .before .args .x .head .edition)) (rw k (omega (arith, c .loop-test .left)))
+
+pub meets-spec : {M : Type 1} → statement M
+meets-spec =
+    tie.close
+    (tie.spec
+    Inv-loop
+    μ-loop
+    loop-holds
+    cast-p
+    mul-p
+    shared-slice-read-p
+    shape-at-requires
+    overlap-requires
+    returns
+    add-i
+    loop-less
+    loop-again
+    returns-2)

@@ -1,0 +1,14 @@
+-- `sheet::content::within` meets its contract by computation. Assumes nothing.
+use mathlib.Core.Path.{refl}
+use Rattle.basis.specs.Test.{_and_}
+use Rattle.sheet.specs.Content.{within}
+use Rattle.sheet.proofs.content.within.Statement.{statement}
+use Rattle.sheet.proofs.content.within.Tie as tie
+
+-- src/content.rt:19:1
+returns : tie.Need-returns
+unfolding within _and_
+returns c = refl
+
+pub within-spec : {M : Type 1} → statement M
+within-spec = tie.close (tie.spec returns)

@@ -24,7 +24,8 @@ use Rattle.format.specs.Execution.{eventNo, inits, others, noRow, noPair}
 use Rattle.format.specs.Layout.{agentOf, shapeOf, accessOf, rowGap, pairGap}
 use Rattle.format.proofs.EventLaws.{readsAt-nobody, writesAt-nobody, isMarker-nobody, readsAt-one, writesAt-one, readsSome-one, isMarker-one, meets-one}
 use Rattle.sheet.specs.declared.Sheet.{Sheet}
-use Rattle.sheet.specs.Handed.{spaced, eventAt, rowAt, pairAt, eventsOn, rowsOn, pairsOn, Counted}
+use Rattle.sheet.specs.Handed.{spaced, eventAt, rowAt, pairAt, eventsOn, rowsOn, pairsOn}
+use Rattle.sheet.specs.Between.{Counted}
 
 module _ (s : List ℕ) (edition n : ℕ) (at : List ℕ) where
   pub events-count : n ≤ length at → length (eventsOn s edition n at) ≡ n

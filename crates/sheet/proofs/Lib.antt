@@ -1,1 +1,3 @@
 pub mod HandedLaws
+pub mod ParseLaws
+pub mod BetweenLaws

@@ -76,11 +76,6 @@ pub record Laid (s : List ℕ) (x : Sheet) (at : List ℕ) : Type 0 where
   pub rows-at : x .«rows_at» ≡ fieldPlace s (suc (x .events))
   pub pairs-at : x .«pairs_at» ≡ fieldPlace s (suc (x .events + x .rows))
 
--- between two fields the places hold the events so far, and their inits are counted
-pub record Counted (s : List ℕ) (x : Sheet) (at : List ℕ) : Type 0 where
-  pub room : x .events ≤ length at
-  pub inits : x .inits ≡ inits (eventsIn s x at)
-
 -- what stands beside a refusal
 abbrev pub blankSheet : Sheet
 blankSheet = record { head = noHead; inits = 0; events = 0; «rows_at» = 0; rows = 0; «pairs_at» = 0; pairs = 0 }

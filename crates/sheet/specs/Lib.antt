@@ -1,3 +1,4 @@
 pub mod Content
 pub mod Parse
 pub mod Handed
+pub mod Between

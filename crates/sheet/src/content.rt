@@ -14,7 +14,8 @@ ghost use Rattle.format.specs.Limits.{slots};
 ghost use Rattle.format.specs.Event.{meets, readsAt, writesAt, isMarker};
 ghost use Rattle.format.specs.Execution.{eventNo, rowBelow, pairBelow};
 ghost use Rattle.sheet.specs.Content.{within, headFits, inside, initFormed, sized, kindFits, otherFormed, formed, standsFirst, eventFits, dataBytes, roomFor, joins, rowRises, rowFits, parts, pairRises, pairFits};
-ghost use Rattle.sheet.specs.Handed.{eventsIn, rowsIn, pairsIn, Counted};
+ghost use Rattle.sheet.specs.Handed.{eventsIn, rowsIn, pairsIn};
+ghost use Rattle.sheet.specs.Between.{Counted};
 
 pub(crate) fn within(lo: u8, hi: u8, n: u8) -> bool
     ensures { λ r. ⌜ r ≡ within lo hi n ⌝ }

@@ -1,0 +1,140 @@
+// The first fault of a field: its refusal's number, 0 for none.
+use crate::Sheet;
+use crate::content;
+use format::field;
+use format::layout;
+ghost use mathlib.Core.Path.{_≡_};
+ghost use Prim.Native.Nat.{_≤_};
+ghost use lib.ListN.{length};
+ghost use Rattle.sheet.specs.Parse.{placeOf, allowed, headFault, eventFault, rowFault, pairFault, valueFault, faultAt};
+ghost use Rattle.sheet.specs.Handed.{eventsIn, rowsIn, pairsIn, execution};
+ghost use Rattle.sheet.specs.Between.{view, Counted};
+
+// A refusal's place, from its number and the place of the field's tag. The one place where a place is made.
+pub(crate) fn place_of(number: u8, tag: u16) -> u32
+    ensures { λ r. ⌜ r ≡ placeOf number tag ⌝ }
+{
+    tag as u32
+}
+
+fn allowed(last: u8, tag: u8) -> bool
+    ensures { λ r. ⌜ r ≡ allowed last tag ⌝ }
+{
+    match tag {
+        1 => last == 0,
+        2 => content::within(1, 2, last),
+        3 => content::within(1, 3, last),
+        4 => content::within(1, 4, last),
+        _ => false,
+    }
+}
+
+fn head_fault(v: &[u8]) -> u8
+    ensures { λ r. ⌜ r ≡ headFault (now (v .entry)) ⌝ }
+{
+    let long = v.len() == 3;
+    if !long {
+        return 4;
+    }
+    let fits = content::head_fits(layout::head_of(v));
+    if !fits {
+        return 5;
+    }
+    0
+}
+
+fn event_fault(s: &[u8], x: Sheet, at: &[u16], v: &[u8]) -> u8
+    requires { ⌜ Counted (now s) x (now at) ⌝ }
+    ensures { λ r. ⌜ r ≡ eventFault (x .head) (eventsIn (now (s .entry)) x (now (at .entry))) (now (v .entry)) ⌝ }
+{
+    let least = layout::event_bytes(x.head.edition) as usize;
+    let short = v.len() < least;
+    if short {
+        return 4;
+    }
+    let agent = field::byte(v, 0);
+    let a = layout::shape_of(v);
+    let fits = content::event_fits(s, x, at, agent, a);
+    if !fits {
+        return 6;
+    }
+    let exact = v.len() == least + content::data_bytes(a) as usize;
+    if !exact {
+        return 4;
+    }
+    let room = content::room_for(s, x, at, agent);
+    if !room {
+        return 9;
+    }
+    0
+}
+
+fn row_fault(s: &[u8], x: Sheet, at: &[u16], v: &[u8]) -> u8
+    requires { ⌜ x .events ≤ length (now at) ⌝ }
+    ensures { λ r. ⌜ r ≡ rowFault (x .head) (eventsIn (now (s .entry)) x (now (at .entry))) (rowsIn (now (s .entry)) x) (now (v .entry)) ⌝ }
+{
+    let long = v.len() == layout::row_bytes(x.head.edition) as usize;
+    if !long {
+        return 4;
+    }
+    let fits = content::row_fits(s, x, at, layout::row_of(v));
+    if !fits {
+        return 7;
+    }
+    0
+}
+
+fn pair_fault(s: &[u8], x: Sheet, at: &[u16], v: &[u8]) -> u8
+    requires { ⌜ x .events ≤ length (now at) ⌝ }
+    ensures { λ r. ⌜ r ≡ pairFault (eventsIn (now (s .entry)) x (now (at .entry))) (pairsIn (now (s .entry)) x) (now (v .entry)) ⌝ }
+{
+    let long = v.len() == 2;
+    if !long {
+        return 4;
+    }
+    let fits = content::pair_fits(s, x, at, layout::pair_of(v));
+    if !fits {
+        return 8;
+    }
+    let room = x.pairs < 32;
+    if !room {
+        return 9;
+    }
+    0
+}
+
+fn value_fault(s: &[u8], x: Sheet, at: &[u16], tag: u8, v: &[u8]) -> u8
+    requires { ⌜ Counted (now s) x (now at) ⌝ }
+    ensures { λ r. ⌜ r ≡ valueFault (execution (now (s .entry)) x (now (at .entry))) tag (now (v .entry)) ⌝ }
+{
+    match tag {
+        1 => head_fault(v),
+        2 => event_fault(s, x, at, v),
+        3 => row_fault(s, x, at, v),
+        4 => pair_fault(s, x, at, v),
+        _ => 3,
+    }
+}
+
+// The number of the refusal of the field at p; 0 where there is none.
+pub(crate) fn fault_at(s: &[u8], p: u16, last: u8, x: Sheet, at: &[u16]) -> u8
+    requires { ⌜ Counted (now s) x (now at) ⌝ }
+    ensures { λ r. ⌜ r ≡ faultAt (now (s .entry)) p (view (now (s .entry)) last x (now (at .entry))) ⌝ }
+{
+    let place = p as usize;
+    let stub = s.len() < place + 3;
+    if stub {
+        return 2;
+    }
+    let tag = field::byte(s, place);
+    let here = allowed(last, tag);
+    if !here {
+        return 3;
+    }
+    let next = place + 3 + field::length_at(s, p as u32) as usize;
+    let over = s.len() < next;
+    if over {
+        return 2;
+    }
+    value_fault(s, x, at, tag, field::value_at(s, p as u32))
+}

@@ -23,6 +23,12 @@ pub enum Reading {
     Whole,
 }
 
+// How far the fields go: to a fault, by number and place, or to the end, with the last tag.
+pub enum Scan {
+    Stopped(u8, u32),
+    Ended(u8, Sheet),
+}
+
 // The reader's outcome: the sheet's counts, and the place of each event's tag.
 pub struct Outcome {
     pub reading: Reading,

@@ -1,0 +1,13 @@
+-- `sheet::fault::place_of` meets its contract by computation. Assumes nothing.
+use mathlib.Core.Path.{refl}
+use Rattle.sheet.specs.Parse.{placeOf}
+use Rattle.sheet.proofs.fault.place_of.Statement.{statement}
+use Rattle.sheet.proofs.fault.place_of.Tie as tie
+
+-- src/fault.rt:14:1
+returns : tie.Need-returns
+unfolding placeOf
+returns c = refl
+
+pub place-of-spec : {M : Type 1} → statement M
+place-of-spec = tie.close (tie.spec returns)

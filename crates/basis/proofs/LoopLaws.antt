@@ -1,4 +1,5 @@
 -- The laws of a loop over a list: what a test of `specs/Test.antt` says where the loop has come to index i. Assumes nothing.
+--     any-at                              one that passes is enough
 --     any-none, any-found, any-more       no entry from i on passes; entry i passes; it does not, and the loop goes on
 --     find-none-left, find-found, find-more     the same of the first entry that passes
 --     number-snoc, all-number                   one entry more; all pass exactly when as many as there are
@@ -104,6 +105,17 @@ module _ {A : Type 0} (p : A → Bool) (l : List A) where
   find-more i d e h y = e ∙ find-step i d h ∙ ap (λ (b : Bool). keep b (getD l i d) (find p (drop (i + 1) l))) y
 
 module _ {A : Type 0} (p : A → Bool) where
+  -- one that passes is enough, wherever it stands
+  pub any-at : (l : List A) (i : ℕ) (d : A) → i < length l → p (getD l i d) ≡ true → any p l ≡ true
+  unfolding any _or_
+  any-at [] i d h y = absurd (omega arith)
+  any-at (a ∷ l) zero d h y = ap (λ (b : Bool). b or any p l) y
+  any-at (a ∷ l) (suc i) d h y = go (p a) (any-at l i d (omega arith) y)
+    where
+      go : (b : Bool) → any p l ≡ true → (b or any p l) ≡ true
+      go true e = refl
+      go false e = e
+
   pub number-snoc : (l : List A) (a : A) → number p (l ++ (a ∷ [])) ≡ cond (p a) (number p l + 1) (number p l)
   unfolding number
   number-snoc [] a = refl

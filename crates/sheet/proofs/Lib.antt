@@ -1,3 +1,4 @@
 pub mod HandedLaws
 pub mod ParseLaws
 pub mod BetweenLaws
+pub mod CompleteLaws

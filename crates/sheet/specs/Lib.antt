@@ -1,4 +1,5 @@
 pub mod Content
 pub mod Parse
 pub mod Handed
+pub mod Promise
 pub mod Between

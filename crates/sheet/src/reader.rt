@@ -6,6 +6,7 @@ use crate::Sheet;
 use crate::entry;
 use crate::fault;
 use format::Head;
+use format::Row;
 use format::Shape;
 use format::field;
 use format::layout;
@@ -13,7 +14,8 @@ use format::tests;
 ghost use mathlib.Core.Path.{_≡_};
 ghost use Prim.Native.Nat.{ℕ, _+_, _≤_, _<_};
 ghost use lib.ListN.{length, getD, replicate};
-ghost use Rattle.basis.specs.Test.{any, from, non};
+ghost use Rattle.basis.specs.Test.{_and_, any, from, non};
+ghost use Rattle.format.specs.Shape.{reads};
 ghost use Rattle.format.specs.Limits.{maxBytes, slots};
 ghost use Rattle.format.specs.Event.{readsSome};
 ghost use Rattle.format.specs.Field.{nextAt};
@@ -163,4 +165,163 @@ fn fields(s: &[u8], at: &mut [u16]) -> Scan
         p = next;
     }
     Scan::Ended(last, x)
+}
+
+// ---- after all fields
+
+// Does some event read?
+fn some_read(s: &[u8], x: Sheet, at: &[u16]) -> bool
+    requires { ⌜ x .events ≤ length (now at) ⌝ }
+    ensures { λ r. ⌜ r ≡ any readsSome (eventsIn (now (s .entry)) x (now (at .entry))) ⌝ }
+{
+    let n = x.events;
+    let mut i: u8 = 0;
+    while i < n {
+        let p = at[i as usize];
+        let hit = tests::reads(entry::shape_at(s, p));
+        if hit {
+            return true;
+        }
+        i += 1;
+    }
+    false
+}
+
+fn is_row(r: Row, e: u8, n: u16) -> bool
+    ensures { λ y. ⌜ y ≡ isRow e n r ⌝ }
+{
+    (r.reader == e) & (r.address as u16 == n)
+}
+
+// Has byte n of event e a row? The row numbered `hint` is looked at first: in a whole sheet it is the one.
+fn has_row(s: &[u8], x: Sheet, e: u8, n: u16, hint: u16) -> bool
+    ensures { λ r. ⌜ r ≡ any (isRow e n) (rowsIn (now (s .entry)) x) ⌝ }
+{
+    let rows = x.rows;
+    if hint < rows {
+        if is_row(entry::row_no(s, x, hint), e, n) {
+            return true;
+        }
+    }
+    let mut j: u16 = 0;
+    while j < rows {
+        let hit = is_row(entry::row_no(s, x, j), e, n);
+        if hit {
+            return true;
+        }
+        j += 1;
+    }
+    false
+}
+
+// Is one of the bytes from a start on, as many as a width, without a row of event e?
+fn lacks_from(s: &[u8], x: Sheet, e: u8, start: u8, width: u8, hint: u16) -> bool
+    ensures { λ r. ⌜ r ≡ any (λ (n : ℕ). non (any (isRow e n) (rowsIn (now (s .entry)) x))) (from start width) ⌝ }
+{
+    let mut i: u8 = 0;
+    while i < width {
+        let found = has_row(
+            s,
+            x,
+            e,
+            start as u16 + i as u16,
+            ((hint as u32 + i as u32) % 65536) as u16,
+        );
+        if !found {
+            return true;
+        }
+        i += 1;
+    }
+    false
+}
+
+// Has event e, of shape a, a read byte without a row?
+fn lacks(s: &[u8], x: Sheet, e: u8, a: Shape, hint: u16) -> bool
+    ensures { λ r. ⌜ r ≡ (reads a and any (λ (n : ℕ). non (any (isRow e n) (rowsIn (now (s .entry)) x))) (from (a .start) (a .width))) ⌝ }
+{
+    let seen = tests::reads(a);
+    if !seen {
+        return false;
+    }
+    lacks_from(s, x, e, a.start, a.width, hint)
+}
+
+// The number of the row behind those of an event of shape a, where `hint` is that of its first.
+fn past(hint: u16, a: Shape) -> u16 {
+    if tests::reads(a) {
+        return ((hint as u32 + a.width as u32) % 65536) as u16;
+    }
+    hint
+}
+
+// 11 at the lowest event that has a read byte without a row; else the sheet is whole.
+fn complete(s: &[u8], last: u8, x: Sheet, at: &[u16]) -> Reading
+    requires { ⌜ x .events ≤ length (now at) ⌝ }
+    ensures { λ r. ⌜ parsedOf r (execution (now (s .entry)) x (now (at .entry))) ≡ completed (view (now (s .entry)) last x (now (at .entry))) (lowestLacking (execution (now (s .entry)) x (now (at .entry)))) ⌝ }
+{
+    let n = x.events;
+    let mut hint: u16 = 0;
+    let mut i: u8 = 0;
+    while i < n {
+        let p = at[i as usize];
+        let a = entry::shape_at(s, p);
+        let bad = lacks(s, x, i, a, hint);
+        if bad {
+            return Reading::Refused(11, fault::place_of(11, p));
+        }
+        hint = past(hint, a);
+        i += 1;
+    }
+    Reading::Whole
+}
+
+fn finish(s: &[u8], last: u8, x: Sheet, at: &[u16]) -> Reading
+    requires { ⌜ Through (now s) last x (now at) ⌝ }
+    ensures { λ r. ⌜ parsedOf r (execution (now (s .entry)) x (now (at .entry))) ≡ finish (now (s .entry)) (view (now (s .entry)) last x (now (at .entry))) ⌝ }
+{
+    let none = last == 0;
+    if none {
+        return Reading::Refused(3, 0);
+    }
+    let some = some_read(s, x, at);
+    if !some {
+        return Reading::Refused(10, s.len() as u32);
+    }
+    complete(s, last, x, at)
+}
+
+// Beside a refusal the counts and places are blank.
+fn refuse(number: u8, place: u32) -> Outcome
+    ensures { λ r. ⌜ r ≡ refusal number place ⌝ }
+{
+    Outcome {
+        reading: Reading::Refused(number, place),
+        sheet: blank(),
+        at: [0; 32],
+    }
+}
+
+// Reads a sheet: its counts and places, or the refusal.
+pub fn read(s: &[u8]) -> Outcome
+    ensures { λ r. ⌜ Handed (now (s .entry)) r ⌝ }
+{
+    if 4096 < s.len() {
+        return refuse(1, 0);
+    }
+    let mut at = [0u16; 32];
+    let scan = fields(s, &mut at);
+    match scan {
+        Scan::Stopped(n, p) => refuse(n, p),
+        Scan::Ended(last, x) => {
+            let reading = finish(s, last, x, &at);
+            match reading {
+                Reading::Refused(n, p) => refuse(n, p),
+                Reading::Whole => Outcome {
+                    reading: Reading::Whole,
+                    sheet: x,
+                    at: at,
+                },
+            }
+        }
+    }
 }

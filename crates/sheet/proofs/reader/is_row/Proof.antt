@@ -1,0 +1,19 @@
+-- `sheet::reader::is_row` meets its contract by computation. Assumes nothing.
+use mathlib.Core.Path.{refl}
+use Rattle.basis.specs.Test.{_and_}
+use Rattle.sheet.specs.Parse.{isRow}
+use borrow.Author.Needs.{needs}
+use Rattle.sheet.proofs.reader.is_row.Statement.{statement}
+use Rattle.sheet.proofs.reader.is_row.Tie as tie
+
+-- src/reader.rt:193:24
+cast-result : tie.Need-cast-result
+cast-result c = search needs
+
+-- src/reader.rt:190:1
+returns : tie.Need-returns
+unfolding isRow _and_
+returns c = refl
+
+pub is-row-spec : {M : Type 1} → statement M
+is-row-spec = tie.close (tie.spec cast-result returns)

@@ -1,0 +1,27 @@
+-- `sheet::reader::lacks` meets its contract: only an access that reads can lack a row. Assumes nothing.
+use mathlib.Core.Path.{sym, ap, _∙_}
+use borrow.Author.Tests.{not-true, not-false}
+use Rattle.basis.proofs.LoopLaws.{and-holds, and-fails}
+use Rattle.format.specs.Shape.{reads}
+use borrow.Author.Needs.{needs}
+use Rattle.sheet.proofs.reader.lacks.Statement.{statement}
+use Rattle.sheet.proofs.reader.lacks.Tie as tie
+
+-- src/reader.rt:242:9
+reads-requires : tie.Need-reads-requires
+reads-requires c κs = search needs
+
+-- src/reader.rt:244:9
+returns : tie.Need-returns
+returns c = sym (and-fails (reads (c .before .before .before .args .a)) _ (sym (c .before .reads .ensures) ∙ not-true (c .before .reads .result) (c .if1 .taken)))
+
+-- src/reader.rt:246:5
+lacks-from-requires : tie.Need-lacks-from-requires
+lacks-from-requires c κs = search needs
+
+-- src/reader.rt:239:1
+returns-2 : tie.Need-returns-2
+returns-2 c = c .lacks-from .ensures ∙ sym (and-holds (reads (c .before .before .before .before .args .a)) _ (sym (c .before .before .reads .ensures) ∙ not-false (c .before .before .reads .result) (c .before .if1 .left)))
+
+pub lacks-spec : {M : Type 1} → statement M
+lacks-spec = tie.close (tie.spec reads-requires returns lacks-from-requires returns-2)

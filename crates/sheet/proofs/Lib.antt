@@ -2,3 +2,5 @@ pub mod HandedLaws
 pub mod ParseLaws
 pub mod BetweenLaws
 pub mod CompleteLaws
+pub mod ContentLaws
+pub mod PromiseLaws

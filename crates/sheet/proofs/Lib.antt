@@ -4,3 +4,5 @@ pub mod BetweenLaws
 pub mod CompleteLaws
 pub mod ContentLaws
 pub mod PromiseLaws
+pub mod AgreementLaws
+pub mod RefusalLaws

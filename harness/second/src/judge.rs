@@ -157,10 +157,15 @@ impl<'a> Relations<'a> {
 
     /// For a row (R, W) and an event V: whether 01 forbids V "placed after W and before R".
     pub fn bar(&self, r: usize, w: usize, v: usize) -> bool {
+        self.reasons(r, w, v).contains(&true)
+    }
+
+    /// (a), (b) and (c) for a row (R, W) and an event V.
+    pub fn reasons(&self, r: usize, w: usize, v: usize) -> [bool; 3] {
         let e = &self.x.events;
         // "a writing sc event V"; V is another event than R and W, or it could not stand between them
         if v == r || v == w || !e[v].writes() || !e[v].sc() {
-            return false;
+            return [false; 3];
         }
         // "(a) W synchronises with R, and V, R have equal ranges"
         let a = self.sync[w][r] && e[v].equal_range(&e[r]);
@@ -168,7 +173,7 @@ impl<'a> Relations<'a> {
         let b = self.before[w][r] && self.before[v][r] && e[w].sc() && e[w].equal_range(&e[v]);
         // "(c) W happens before R and before V, R is sc, and V, R have equal ranges"
         let c = self.before[w][r] && self.before[w][v] && e[r].sc() && e[v].equal_range(&e[r]);
-        a || b || c
+        [a, b, c]
     }
 
     /// "A total order of all events meets the rules when it contains happens-before and there is no row (R, W) and

@@ -7,6 +7,8 @@
 //! - [`text`]: a sheet as text for people, and back.
 //! - [`random`]: random small sheets, whole and damaged, by a seed.
 
+#![allow(clippy::needless_range_loop)] // plain loops over event numbers are meant
+
 pub mod answer;
 pub mod judge;
 pub mod random;

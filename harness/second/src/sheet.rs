@@ -10,6 +10,8 @@ pub const MAX_OTHERS: usize = 16;
 pub const MAX_PAIRS: usize = 32;
 /// The most events there can be, hence the longest order.
 pub const MAX_EVENTS: usize = MAX_INITS + MAX_OTHERS;
+/// The scratch that the most events need.
+pub const MAX_SCRATCH: usize = (1 << MAX_OTHERS) / 8;
 
 /// A refusal's number and place.
 pub type Refusal = (u8, usize);
@@ -275,7 +277,7 @@ fn content(x: &Execution, e: &Event) -> bool {
 
 /// "these three have widths 1, 2, 4, 8, and in mode 2 a start divisible by the width."
 fn ranged(e: &Event) -> bool {
-    matches!(e.width, 1 | 2 | 4 | 8) && (!e.sc() || e.start % e.width == 0)
+    matches!(e.width, 1 | 2 | 4 | 8) && (!e.sc() || e.start.is_multiple_of(e.width))
 }
 
 /// "Tear-free: every sc event; an unordered event of width 1, 2 or 4 whose start is divisible by its width. Inits are
@@ -284,7 +286,7 @@ fn tear_free(e: &Event) -> bool {
     match e.mode {
         Mode::Init => false,
         Mode::Sc => true,
-        Mode::Unordered => matches!(e.width, 1 | 2 | 4) && e.start % e.width == 0,
+        Mode::Unordered => matches!(e.width, 1 | 2 | 4) && e.start.is_multiple_of(e.width),
     }
 }
 

@@ -176,3 +176,45 @@ fn event(line: &str) -> Result<Vec<u8>, String> {
     value.extend(bytes);
     Ok(value)
 }
+
+/// An entry of the litmus source.
+#[derive(Clone, Debug)]
+pub struct Entry {
+    pub name: String,
+    /// What document 01 says, a line each.
+    pub words: String,
+    pub line: String,
+    pub sheet: Vec<u8>,
+}
+
+/// The entries of a litmus source: `entry NAME`, lines `| words`, `line LINE`, the sheet's text.
+pub fn litmus(source: &str) -> Result<Vec<Entry>, String> {
+    let mut parts: Vec<(String, String)> = vec![];
+    for line in source.lines() {
+        match (line.strip_prefix("entry "), parts.last_mut()) {
+            (Some(name), _) => parts.push((name.to_string(), String::new())),
+            (None, Some((_, body))) => *body += &format!("{line}\n"),
+            (None, None) => {}
+        }
+    }
+    let mut entries: Vec<Entry> = vec![];
+    for (name, body) in parts {
+        let mut e = Entry { name, words: String::new(), line: String::new(), sheet: vec![] };
+        let mut fields = String::new();
+        for line in body.lines() {
+            if let Some(words) = line.strip_prefix("| ") {
+                e.words += &format!("{words}\n");
+            } else if let Some(expected) = line.strip_prefix("line ") {
+                e.line = expected.to_string();
+            } else {
+                fields += &format!("{line}\n");
+            }
+        }
+        e.sheet = from_text(&fields).map_err(|why| format!("entry {}: {why}", e.name))?;
+        if e.line.is_empty() || entries.iter().any(|other| other.name == e.name) {
+            return Err(format!("entry {}: no line, or a second of this name", e.name));
+        }
+        entries.push(e);
+    }
+    Ok(entries)
+}

@@ -2,6 +2,7 @@
 
 use second::judge::{next_order, Relations};
 use second::random::{case, damaged, whole, Rng, WAYS};
+use second::sheet::{MAX_EVENTS, MAX_SCRATCH};
 use second::text::{from_text, to_text};
 use second::{judge, judge_into, needed_scratch, read, Answer};
 use std::collections::BTreeMap;
@@ -12,16 +13,16 @@ const EXAMPLE: [u8; 30] = [1, 0, 3, 1, 1, 1, 2, 0, 6, 0, 2, 0, 0, 1, 0, 2, 0, 6,
 fn the_example() {
     let answer = judge(&EXAMPLE, 1, 2);
     assert_eq!(answer.line(), "consistent orderly then 0 1");
-    assert_eq!(answer.word(), 0x3_00_ffffffff);
+    assert_eq!(answer.word(), 0x300_ffff_ffff);
     assert_eq!(judge(&EXAMPLE, 0, 2).line(), "refused 12 at 0");
     assert_eq!(judge(&EXAMPLE, 0, 0).line(), "refused 12 at 0");
     assert_eq!(judge(&EXAMPLE, 1, 1).line(), "refused 13 at 0");
-    assert_eq!(judge(&EXAMPLE, 1, 1).word(), 0x1_0d_00000000);
-    assert_eq!(judge(&EXAMPLE[..24], 1, 2).word(), 0x1_0b_0000000f);
+    assert_eq!(judge(&EXAMPLE, 1, 1).word(), 0x10d_0000_0000);
+    assert_eq!(judge(&EXAMPLE[..24], 1, 2).word(), 0x10b_0000_000f);
     let mut wrong = EXAMPLE;
     wrong[23] = 7;
     assert_eq!(judge(&wrong, 1, 2).line(), "broken 21 1 0 - 0");
-    assert_eq!(judge(&wrong, 1, 2).word(), 0x2_15_0100ff00);
+    assert_eq!(judge(&wrong, 1, 2).word(), 0x215_0100_ff00);
 }
 
 #[test]
@@ -115,7 +116,7 @@ fn prefixes_against_all_orders() {
 fn reported_orders_meet_the_rules() {
     for index in 0..20_000 {
         let c = case(4, index, 16);
-        if let Answer::Consistent { order, .. } = judge(&c.sheet, 8192, 20) {
+        if let Answer::Consistent { order, .. } = judge(&c.sheet, MAX_SCRATCH, MAX_EVENTS) {
             let x = read(&c.sheet).unwrap();
             let order: Vec<usize> = order.iter().map(|&e| e as usize).collect();
             assert!(Relations::of(&x).meets(&order));
@@ -180,4 +181,57 @@ fn the_readers_table() {
         sheets += 1;
     }
     assert!(sheets >= 60);
+}
+
+/// Every litmus entry, its line written by hand from document 01; the files are as their source makes them.
+#[test]
+fn the_litmus_table() {
+    let dir = concat!(env!("CARGO_MANIFEST_DIR"), "/../../examples/litmus");
+    let entries = second::text::litmus(&std::fs::read_to_string(format!("{dir}/litmus.src")).unwrap()).unwrap();
+    assert!(entries.len() >= 56);
+    for e in &entries {
+        assert_eq!(judge(&e.sheet, MAX_SCRATCH, MAX_EVENTS).line(), e.line, "{}", e.name);
+        let file = |end: &str| std::fs::read(format!("{dir}/{}.{end}", e.name)).unwrap();
+        assert_eq!(file("sheet"), e.sheet, "{}: run harness/litmus.sh", e.name);
+        assert_eq!(file("line"), format!("{}\n", e.line).into_bytes(), "{}: run harness/litmus.sh", e.name);
+    }
+    let first = std::fs::read(format!("{dir}/../first.sheet")).unwrap();
+    assert_eq!(first, EXAMPLE);
+    // 16: with 8,191 bytes of scratch
+    let sixteen = entries.iter().find(|e| e.name == "16a-sixteen-others").unwrap();
+    assert_eq!(judge(&sixteen.sheet, 8191, 20).line(), "refused 12 at 0");
+}
+
+/// Random sheets where one of (a), (b), (c) alone changes the answer: without them that reason would be untried.
+#[test]
+fn each_reason_decides_somewhere() {
+    let mut decides = [0; 3];
+    for index in 0..20_000 {
+        let c = case(8, index, 7);
+        let Ok(x) = read(&c.sheet) else { continue };
+        let m = Relations::of(&x);
+        if x.events.len() > 7 || m.first_broken_rule().is_some() {
+            continue;
+        }
+        let first = m.first_of_all_orders();
+        for (left_out, count) in decides.iter_mut().enumerate() {
+            let bar = |r, w, v| m.reasons(r, w, v).iter().enumerate().any(|(i, &reason)| reason && i != left_out);
+            let mut order: Vec<usize> = (0..x.events.len()).collect();
+            let found = loop {
+                let place = |e| order.iter().position(|&o| o == e).unwrap();
+                let n = order.len();
+                let kept = (0..n).all(|a| (0..n).all(|b| !m.before[a][b] || place(a) < place(b)));
+                let barred = |r, w| (0..n).any(|v| place(w) < place(v) && place(v) < place(r) && bar(r, w, v));
+                if kept && !x.rows.iter().any(|row| barred(row.reader, row.writer)) {
+                    break Some(order.iter().map(|&e| e as u8).collect::<Vec<u8>>());
+                }
+                if !next_order(&mut order) {
+                    break None;
+                }
+            };
+            *count += usize::from(found != first);
+        }
+    }
+    println!("(a), (b), (c) decide {decides:?} times");
+    assert!(decides.iter().all(|&d| d >= 50), "{decides:?}");
 }

@@ -4,15 +4,19 @@
 //!     sheets tsv FILE            check the sheets of a .tsv against the second program
 //!     sheets tsv FILE --batch    its sheets, each after its length in two bytes
 //!     sheets tsv FILE --lines    its expected lines
+//!     sheets litmus SRC DIR      the files of every litmus entry (NAME.sheet, .txt, .line) from their one source
+//!     sheets litmus SRC DIR --check   whether the files are as the source makes them
 //!     sheets text FILE           the bytes of a sheet's text
 //!     sheets dump FILE           the text of a sheet
 
-use second::text::{from_hex, from_text, hex, to_text};
+use second::sheet::{MAX_EVENTS, MAX_SCRATCH};
+use second::text::{from_hex, from_text, hex, litmus, to_text};
 use second::{judge, random, read, Answer};
 use std::io::Write;
 
 const USAGE: &str = "usage: sheets --seed S --count N [--max-events K] --format hex|deftest-parse|batch|dump
        sheets tsv FILE [--batch|--lines]
+       sheets litmus SRC DIR [--check]
        sheets text FILE
        sheets dump FILE";
 
@@ -25,6 +29,8 @@ fn main() {
         ["tsv", file, "--lines"] => {
             tsv(file).and_then(|all| all.iter().try_for_each(|t| out(format!("{}\n", t.expected).as_bytes())))
         }
+        ["litmus", source, dir] => litmus_files(source, dir, false),
+        ["litmus", source, dir, "--check"] => litmus_files(source, dir, true),
         ["text", file] => text_of(file).and_then(|text| from_text(&text)).and_then(|sheet| out(&sheet)),
         ["dump", file] => {
             let sheet = std::fs::read(file).map_err(|e| format!("{file}: {e}"));
@@ -71,7 +77,7 @@ fn random_sheets(words: &[&str]) -> Result<(), String> {
     let mut stdout = std::io::BufWriter::new(std::io::stdout().lock());
     for index in 0..count {
         let c = random::case(seed, index, max);
-        let line = || judge(&c.sheet, 8192, 20).line();
+        let line = || judge(&c.sheet, MAX_SCRATCH, MAX_EVENTS).line();
         let bytes = match format.as_str() {
             "hex" => format!("{}\t{}\t{}\n", c.name, hex(&c.sheet), line()).into_bytes(),
             "deftest-parse" => {
@@ -133,7 +139,7 @@ fn tsv_check(file: &str) -> Result<(), String> {
         let found = match t.expected.split(' ').next() {
             Some("read") | Some("refused") => parsed(&t.sheet, "read", " at "),
             _ => {
-                let answer: Answer = judge(&t.sheet, 8192, 20);
+                let answer: Answer = judge(&t.sheet, MAX_SCRATCH, MAX_EVENTS);
                 answer.line()
             }
         };
@@ -146,5 +152,35 @@ fn tsv_check(file: &str) -> Result<(), String> {
     if wrong > 0 {
         return Err(format!("{wrong} wrong"));
     }
+    Ok(())
+}
+
+/// Writes, or compares, the three files of each entry. The directory holds no other such files.
+fn litmus_files(source: &str, dir: &str, check: bool) -> Result<(), String> {
+    let entries = litmus(&text_of(source)?)?;
+    let mut files = std::collections::BTreeMap::new();
+    for e in &entries {
+        let text = format!("{}\n{}", e.words, to_text(&e.sheet));
+        files.insert(format!("{}.sheet", e.name), e.sheet.clone());
+        files.insert(format!("{}.txt", e.name), text.into_bytes());
+        files.insert(format!("{}.line", e.name), format!("{}\n", e.line).into_bytes());
+    }
+    let listed = std::fs::read_dir(dir).map_err(|e| format!("{dir}: {e}"))?;
+    for found in listed {
+        let name = found.map_err(|e| e.to_string())?.file_name().to_string_lossy().into_owned();
+        let ours = [".sheet", ".txt", ".line"].iter().any(|end| name.ends_with(end));
+        if ours && !files.contains_key(&name) {
+            return Err(format!("{dir}/{name}: no entry of {source} makes it"));
+        }
+    }
+    for (name, bytes) in &files {
+        let path = format!("{dir}/{name}");
+        if !check {
+            std::fs::write(&path, bytes).map_err(|e| format!("{path}: {e}"))?;
+        } else if std::fs::read(&path).ok().as_ref() != Some(bytes) {
+            return Err(format!("{path}: not as {source} makes it"));
+        }
+    }
+    println!("{} entries", entries.len());
     Ok(())
 }

@@ -1,6 +1,7 @@
 //! sheets: random sheets, and sheets kept as text.
 //!
 //!     sheets --seed S --count N [--max-events K] --format hex|deftest-parse|batch|dump
+//!     sheets files DIR SEED COUNT   random sheets, a file each
 //!     sheets tsv FILE            check the sheets of a .tsv against the second program
 //!     sheets tsv FILE --batch    its sheets, each after its length in two bytes
 //!     sheets tsv FILE --lines    its expected lines
@@ -15,6 +16,7 @@ use second::{judge, random, read, Answer};
 use std::io::Write;
 
 const USAGE: &str = "usage: sheets --seed S --count N [--max-events K] --format hex|deftest-parse|batch|dump
+       sheets files DIR SEED COUNT
        sheets tsv FILE [--batch|--lines]
        sheets litmus SRC DIR [--check]
        sheets text FILE
@@ -24,6 +26,7 @@ fn main() {
     let args: Vec<String> = std::env::args().skip(1).collect();
     let words: Vec<&str> = args.iter().map(|a| a.as_str()).collect();
     let done = match words[..] {
+        ["files", dir, seed, count] => files(dir, seed, count),
         ["tsv", file] => tsv_check(file),
         ["tsv", file, "--batch"] => tsv(file).and_then(|all| all.iter().try_for_each(|t| out(&batched(&t.sheet)))),
         ["tsv", file, "--lines"] => {
@@ -90,6 +93,15 @@ fn random_sheets(words: &[&str]) -> Result<(), String> {
         stdout.write_all(&bytes).map_err(|e| e.to_string())?;
     }
     stdout.flush().map_err(|e| e.to_string())
+}
+
+fn files(dir: &str, seed: &str, count: &str) -> Result<(), String> {
+    let number = |word: &str| word.parse::<u64>().map_err(|_| format!("{word}: no number"));
+    for index in 0..number(count)? {
+        let c = random::case(number(seed)?, index, 6);
+        std::fs::write(format!("{dir}/{}", c.name), &c.sheet).map_err(|e| format!("{dir}/{}: {e}", c.name))?;
+    }
+    Ok(())
 }
 
 /// What reading gives: `refused`, number, place; or a word and agents, memory size, inits, events (inits among them),

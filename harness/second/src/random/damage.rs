@@ -601,29 +601,34 @@ fn five_inits(rng: &mut Rng, mut fields: Vec<Field>, change: fn(&mut Field)) -> 
 /// Bytes changed without regard to fields.
 pub(super) fn scramble(rng: &mut Rng, sheet: &mut Vec<u8>) -> &'static str {
     let some = |rng: &mut Rng, sheet: &[u8]| rng.below(sheet.len());
-    match rng.below(8) {
-        0 => {
+    match rng.below(41) {
+        // as long as a sheet may be
+        40 => {
+            sheet.resize(MAX_SHEET, 0);
+            "filled"
+        }
+        0..=4 => {
             let i = some(rng, sheet);
             sheet.truncate(i);
             "cut"
         }
-        1 => {
+        5..=9 => {
             let i = some(rng, sheet);
             sheet.remove(i);
             "byte-lost"
         }
-        2 => {
+        10..=14 => {
             let i = some(rng, sheet);
             let b = rng.below(6) as u8;
             sheet.insert(i, b);
             "byte-more"
         }
-        3 => {
+        15..=19 => {
             let length = rng.below(40);
             *sheet = (0..length).map(|_| if rng.percent(70) { rng.below(5) as u8 } else { rng.byte() }).collect();
             "noise"
         }
-        4 => {
+        20..=24 => {
             let tail = rng.range(1, 6);
             for _ in 0..tail {
                 let b = rng.below(5) as u8;
@@ -631,7 +636,7 @@ pub(super) fn scramble(rng: &mut Rng, sheet: &mut Vec<u8>) -> &'static str {
             }
             "tail"
         }
-        5 => {
+        25..=29 => {
             let i = some(rng, sheet);
             sheet[i] ^= 1 << rng.below(8);
             "bit"

@@ -9,7 +9,7 @@ mod damage;
 mod whole;
 
 pub use damage::{damaged, Way, WAYS};
-pub use whole::whole;
+pub use whole::{sized, whole};
 
 /// splitmix64.
 pub struct Rng(u64);

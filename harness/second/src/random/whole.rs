@@ -26,13 +26,29 @@ pub fn whole(rng: &mut Rng, max: usize) -> (String, Vec<Field>) {
     loop {
         let made = match rng.below(100) {
             0..=44 => template(rng, max),
-            45..=74 => replayed(rng, max),
-            _ => Some(("free".to_string(), free(rng, max))),
+            45..=74 => {
+                let n = rng.range(1, max);
+                Some(replayed(rng, n))
+            }
+            _ => {
+                let n = rng.range(1, max);
+                Some(("free".to_string(), free(rng, n)))
+            }
         };
         if let Some((name, plans)) = made {
             if let Some(fields) = finish(rng, plans) {
                 return (name, fields);
             }
+        }
+    }
+}
+
+/// A whole sheet with exactly `n` events that are not inits, mostly one that some order explains.
+pub fn sized(rng: &mut Rng, n: usize) -> Vec<u8> {
+    loop {
+        let plans = replayed(rng, n).1;
+        if let Some(fields) = finish(rng, plans) {
+            return bytes(&fields);
         }
     }
 }
@@ -209,12 +225,11 @@ fn any_event(rng: &mut Rng, size: usize, agents: u8, sc: usize) -> Plan {
     Plan { agent, kind, mode, start, width, from: vec![From::Any] }
 }
 
-/// Events and rows as they fall, pairs between the markers.
-fn free(rng: &mut Rng, max: usize) -> Plans {
+/// `n` events and rows as they fall, pairs between the markers.
+fn free(rng: &mut Rng, n: usize) -> Plans {
     let size = rng.pick(&[1, 1, 2, 2, 2, 3, 4, 4, 8, 8, 16, 64]);
-    let agents = if rng.percent(80) { rng.range(1, 4.min(max)) } else { rng.range(1, 8) } as u8;
+    let agents = if rng.percent(80) { rng.range(1, 4) } else { rng.range(1, 8) } as u8;
     let sc = rng.pick(&[0, 30, 60, 100, 100]);
-    let n = rng.range(1, max);
     let events: Vec<Plan> = (0..n).map(|_| any_event(rng, size, agents, sc)).collect();
     let order: Vec<usize> = (0..n).collect();
     let pairs = some_pairs(rng, &events, &order);
@@ -239,9 +254,8 @@ fn some_pairs(rng: &mut Rng, events: &[Plan], order: &[usize]) -> Vec<(usize, us
 
 /// Events run one after another on a plain memory, in an order that keeps each agent's: every read sees the last write.
 /// So an order exists, unless a row is then changed.
-fn replayed(rng: &mut Rng, max: usize) -> Option<(String, Plans)> {
-    let mut plans = free(rng, max);
-    let n = plans.events.len();
+fn replayed(rng: &mut Rng, n: usize) -> (String, Plans) {
+    let mut plans = free(rng, n);
     // an order that keeps each agent's
     let mut left: Vec<usize> = (0..n).collect();
     let mut order = vec![];
@@ -269,7 +283,7 @@ fn replayed(rng: &mut Rng, max: usize) -> Option<(String, Plans)> {
         let e = rng.below(n);
         plans.events[e].from = vec![From::Any];
     }
-    Some((name.to_string(), plans))
+    (name.to_string(), plans)
 }
 
 /// Inits, data, rows and pairs for the planned events; nothing where a read byte has no writer or nothing reads.

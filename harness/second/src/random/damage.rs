@@ -78,7 +78,7 @@ fn set(mut fields: Vec<Field>, i: Option<usize>, item: usize, to: u8) -> Option<
     at(fields, i)
 }
 
-/// A length from 0 to 12 that is none of these.
+/// A length from 0 to 12 other than this one.
 fn odd_length(rng: &mut Rng, not: usize) -> usize {
     loop {
         let n = rng.below(13);
@@ -100,7 +100,7 @@ fn put(mut fields: Vec<Field>, i: usize, f: Field) -> Option<(Vec<u8>, usize)> {
     at(fields, i)
 }
 
-/// An init or another event that is whole in itself, put in after the last event.
+/// Where a further event would stand: after the last.
 fn after_events(fields: &[Field]) -> usize {
     1 + events(fields)
 }
@@ -128,7 +128,7 @@ fn many_pairs(rng: &mut Rng, pairs: usize) -> Vec<Field> {
     fields
 }
 
-/// So many events that are not inits: more writes are added, or the last taken away with all rows and pairs.
+/// Writes added until there are `n` events that are not inits.
 fn with_others(rng: &mut Rng, mut fields: Vec<Field>, n: usize) -> Vec<Field> {
     while fields.iter().filter(|f| is_other(f)).count() < n {
         let i = after_events(&fields);

@@ -2,7 +2,7 @@
 
 use super::*;
 
-/// Where a read byte comes from: an init, or an event of the plan.
+/// Where a read byte comes from: an init, an event of the plan, or whatever writes it.
 #[derive(Clone, Copy, PartialEq)]
 enum From {
     Init,
@@ -17,7 +17,7 @@ struct Plan {
     mode: u8,
     start: usize,
     width: usize,
-    /// By byte of the range, the last for all further ones; the first where there is none.
+    /// By byte of the range; the last holds for all further ones.
     from: Vec<From>,
 }
 
@@ -68,6 +68,7 @@ type Shape = (&'static str, usize, &'static [(u8, u8, u8, usize, &'static [usize
 const I: usize = 9;
 const X: usize = 0;
 const Y: usize = 1;
+
 #[rustfmt::skip]
 const TEMPLATES: &[Shape] = &[
     ("l4", 1, &[(1, WRITE, U, X, &[]), (1, WRITE, SC, Y, &[]), (2, READ, SC, Y, &[1]), (2, READ, U, X, &[I])], &[]),

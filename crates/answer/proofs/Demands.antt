@@ -1,0 +1,12 @@
+-- The promises of specs/Demands.antt hold. Assumes nothing.
+use Rattle.answer.specs.Demands.{Held, Parts, Distinct}
+use Rattle.answer.proofs.WordLaws.{packed-below, packed-kind, packed-number, packed-rest, packed-unique}
+
+pub held : Held
+held = packed-below
+
+pub parts : Parts
+parts x h = (packed-kind x h, packed-number x h, packed-rest x h)
+
+pub distinct : Distinct
+distinct = packed-unique

@@ -1,0 +1,6 @@
+pub mod Kind
+pub mod Number
+pub mod NameOf
+pub mod Word
+pub mod Fit
+pub mod Demands

@@ -1,0 +1,100 @@
+-- The laws of specs/Line.antt.
+--     numbered-length   a number of 32 bits takes at most 11 bytes with its space
+--     byte-length       a byte takes at most 4
+--     events-more       one event more of a list
+--     events-all        all of a list
+--     events-sum        its length is the sum of both
+--     events-length     an event, with all before it, is no longer than all of the list
+--     line-sum          the line's length is that of its parts
+--     line-some         a line has at least one byte
+--     line-bound        the line of an answer of the code, with an order of bytes, is at most 34 + 4 * n bytes for n events
+-- Assumes nothing.
+use mathlib.Core.Path.{_≡_, refl, sym, ap, _∙_}
+use mathlib.Core.List.{List, [], _∷_, _++_, append-assoc, append-nil}
+use Prim.Native.Nat.{ℕ, suc, _+_, _*_, _^_, _≤_, _<_}
+use native.Mathlib.Omega.{arith}
+use native.Mathlib.Numerals.{add-one}
+use lib.ListN.{length, getD, take, drop, length-append, take-append-drop}
+use lib.Seq.{take-all, take-suc}
+use Rattle.answer.specs.declared.Name.{Name}
+use Rattle.answer.specs.declared.Name.the-variants.{Number, None}
+use Rattle.answer.specs.declared.Four.{Four}
+use Rattle.answer.specs.declared.Settled.the-variants.{Orderly, Unsettled}
+use Rattle.answer.specs.declared.Answer.{Answer}
+use Rattle.answer.specs.declared.Answer.the-variants.{Refused, Broken, Consistent}
+use Rattle.answer.specs.NameOf.{namesOf}
+use Rattle.answer.specs.Fit.{Below, FourBelow, Fits}
+use Rattle.report.specs.Text.{text}
+use Rattle.report.specs.Line.{numbered, nameText, namesText, headOf, told, eventsText, lineOf}
+use Rattle.report.proofs.DecimalLaws.{decimal-length}
+
+-- ---- numbers
+
+pub numbered-length : (n : ℕ) → n < 2 ^ 32 → length (numbered n) ≤ 11
+numbered-length n h = omega (arith, decimal-length 9 n (omega arith))
+
+pub byte-length : (n : ℕ) → n < 256 → length (numbered n) ≤ 4
+byte-length n h = omega (arith, decimal-length 2 n (omega arith))
+
+-- ---- events
+
+events-append : (a b : List ℕ) → eventsText (a ++ b) ≡ eventsText a ++ eventsText b
+events-append [] b = refl
+events-append (e ∷ a) b =
+    ap (λ (l : List ℕ). numbered e ++ l) (events-append a b) ∙ sym (append-assoc (numbered e) (eventsText a) (eventsText b))
+
+pub events-more : (l : List ℕ) (i : ℕ) → i < length l → eventsText (take (i + 1) l) ≡ eventsText (take i l) ++ numbered (getD l i 0)
+events-more l i h =
+    rw (add-one, take-suc l i 0 h, events-append (take i l) (getD l i 0 ∷ []), append-nil (numbered (getD l i 0)))
+
+pub events-all : (l : List ℕ) (i : ℕ) → length l ≤ i → eventsText (take i l) ≡ eventsText l
+events-all l i h = ap eventsText (take-all i l h)
+
+pub events-sum : (l : List ℕ) (i : ℕ) → i < length l → length (eventsText (take (i + 1) l)) ≡ length (eventsText (take i l)) + length (numbered (getD l i 0))
+events-sum l i h = ap length (events-more l i h) ∙ length-append (eventsText (take i l)) (numbered (getD l i 0))
+
+pub events-length : (l : List ℕ) (i : ℕ) → i < length l → length (eventsText (take i l)) + length (numbered (getD l i 0)) ≤ length (eventsText l)
+events-length l i h =
+    let whole = ap (λ (m : List ℕ). length (eventsText m)) (take-append-drop (i + 1) l) in
+    let parts = ap length (events-append (take (i + 1) l) (drop (i + 1) l)) ∙ length-append (eventsText (take (i + 1) l)) (eventsText (drop (i + 1) l)) in
+    omega (arith, events-sum l i h)
+
+-- ---- the line
+
+pub line-sum : (x : Answer) (order : List ℕ) → length (lineOf x order) ≡ length (headOf x) + 1 + length (eventsText (told x order))
+unfolding lineOf
+line-sum x order =
+    omega (arith, length-append (headOf x ++ eventsText (told x order)) (text "\n"), length-append (headOf x) (eventsText (told x order)))
+
+pub line-some : (x : Answer) (order : List ℕ) → 0 < length (lineOf x order)
+line-some x order = omega (arith, line-sum x order)
+
+name-bound : (n : Name) → Below 256 n → length (nameText n) ≤ 4
+name-bound (Number k) h = byte-length k h
+name-bound None h = omega arith
+
+names-bound : (f : Four) → FourBelow 256 f → length (namesText f) ≤ 16
+names-bound f h =
+    simp length-append (omega (arith, name-bound (f .0) (h .first), name-bound (f .1) (h .second), name-bound (f .2) (h .third), name-bound (f .3) (h .fourth)))
+
+head-bound : (x : Answer) → Fits 256 x → length (headOf x) ≤ 33
+head-bound (Refused n p) h =
+    simp length-append (omega (arith, byte-length n (h .0), numbered-length p (h .1)))
+head-bound (Broken n names) h =
+    simp length-append (omega (arith, byte-length n (h .0), simp length-append at (names-bound (namesOf names) (h .1))))
+head-bound (Consistent Orderly) h = omega arith
+head-bound (Consistent (Unsettled e d)) h =
+    simp length-append (omega (arith, byte-length e (h .first), byte-length d (h .second)))
+
+events-bound : (l : List ℕ) → ((i : ℕ) → getD l i 0 < 256) → length (eventsText l) ≤ 4 * length l
+events-bound [] h = omega arith
+events-bound (e ∷ l) h =
+    omega (arith, length-append (numbered e) (eventsText l), byte-length e (h 0), events-bound l (λ i. h (suc i)))
+
+told-bound : (x : Answer) (order : List ℕ) → ((i : ℕ) → getD order i 0 < 256) → length (eventsText (told x order)) ≤ 4 * length order
+told-bound (Refused n p) order h = omega arith
+told-bound (Broken n names) order h = omega arith
+told-bound (Consistent s) order h = events-bound order h
+
+pub line-bound : (x : Answer) (order : List ℕ) → Fits 256 x → ((i : ℕ) → getD order i 0 < 256) → length (lineOf x order) ≤ 34 + 4 * length order
+line-bound x order h b = omega (arith, line-sum x order, head-bound x h, told-bound x order b)

@@ -1,0 +1,39 @@
+-- `report::put_broken` meets its contract: the pieces are put one after the other. Assumes nothing.
+use native.Mathlib.Omega.{arith}
+use borrow.Author.Needs.{needs}
+use Rattle.report.proofs.PutLaws.{put-then}
+use Rattle.report.proofs.put_broken.Statement.{statement}
+use Rattle.report.proofs.put_broken.Tie as tie
+
+slice-aggregate-put-bytes : tie.Need-slice-aggregate-put-bytes
+slice-aggregate-put-bytes c = search needs
+
+put-bytes-requires : tie.Need-put-bytes-requires
+put-bytes-requires c κs = search needs
+
+put-number-requires : tie.Need-put-number-requires
+put-number-requires c κs = search needs
+
+names-of-requires : tie.Need-names-of-requires
+names-of-requires c κs = search needs
+
+put-names-requires : tie.Need-put-names-requires
+put-names-requires c κs = search needs
+
+same-length : tie.Need-same-length
+same-length c = search needs
+
+returns : tie.Need-returns
+returns c = record { put = put-then (put-then (c .before .before .before .before .before .before .before .before .before .before .before .put-bytes .ensures) (c .before .before .before .before .before .before .before .put-number .ensures .put)) (rw (c .before .before .before .names-of .ensures) at (c .before .before .put-names .ensures .put)); near = omega arith }
+
+pub put-broken-spec : {M : Type 1} → statement M
+put-broken-spec =
+    tie.close
+    (tie.spec
+    slice-aggregate-put-bytes
+    put-bytes-requires
+    put-number-requires
+    names-of-requires
+    put-names-requires
+    same-length
+    returns)

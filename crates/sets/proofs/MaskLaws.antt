@@ -1,6 +1,7 @@
 -- The laws of specs/Mask.antt: what `mem` says of each operation on sets. No law fixes the number of events. Assumes nothing.
 --     mem-insert mem-remove mem-full mem-above mem-and mem-or mem-empty mem-one    membership of each operation
 --     insert-new insert-old insert-cases    the same of `insert`, as facts
+--     remove-old remove-cases               and of `remove`
 --     ext ext-all                           two sets with the same members are one number
 --     within-of of-within within-antisym    subsets, and the machine's test of them
 --     mem-lt mem-beyond insert-lt above-lt  the width of a set
@@ -24,7 +25,7 @@ use lib.Pow.{pow-pos, pow-mono, pow-lt, shr-shr, shr-lt, ones-lt, split}
 use lib.Bits.{bitAnd, bitOr, and-shr, or-shr, and-mod, or-mod, or-disjoint, or-lt, and-le-l, and-mask}
 use lib.Count.{trailingZeros, under}
 use Rattle.sets.specs.Mask.{slots, mem, Has, Within, pick, insert, remove, full, above, Lowest}
-use Rattle.sets.proofs.BoolLaws.{bool-ext, by-bool, not-both-ways, false-of, eqb-self, or-cases, or-left, or-right, and-not-left, not-both}
+use Rattle.sets.proofs.BoolLaws.{bool-ext, by-bool, not-both-ways, false-of, eqb-self, or-cases, or-left, or-right, and-parts, and-not-left, not-both}
 
 -- ---- the lowest place, and the others
 
@@ -339,6 +340,16 @@ insert-old s e d h = mem-insert s e d ∙ or-left (mem s d) (eqb d e) h
 
 pub insert-cases : (s e d : ℕ) → Has (insert s e) d → (d ≡ e) ⊎ Has s d
 insert-cases s e d h = ⊎-elim inr (λ q. inl (eqb-true d e q)) (or-cases (mem s d) (eqb d e) (sym (mem-insert s e d) ∙ h))
+
+pub remove-old : (s e d : ℕ) → Has (remove s e) d → Has s d
+remove-old s e d h = and-parts (mem s d) (not (eqb d e)) (sym (mem-remove s e d) ∙ h) .0
+
+pub remove-cases : (s e d : ℕ) → Has s d → (d ≡ e) ⊎ Has (remove s e) d
+remove-cases s e d h = go (ℕ-discrete d e)
+  where
+    go : Dec (d ≡ e) → (d ≡ e) ⊎ Has (remove s e) d
+    go (yes p) = inl p
+    go (no f) = inr (mem-remove s e d ∙ ap₂ (λ (x y : Bool). x && not y) h (ne-eqb d e f))
 
 -- a set with a new member is a larger number
 pub insert-gt : (s e : ℕ) → mem s e ≡ false → s < insert s e

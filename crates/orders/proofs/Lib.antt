@@ -1,0 +1,5 @@
+pub mod FirstLaws
+pub mod StepLaws
+pub mod OrderLaws
+pub mod InitsLaws
+pub mod TablesLaws

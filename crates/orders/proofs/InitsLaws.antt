@@ -1,6 +1,7 @@
 -- The laws of specs/Inits.antt: the inits can be placed first, in the order of their numbers, and the first order begins so. Assumes nothing.
 --     below-suc      the events below j, and j
 --     whole-first    the first way on from the inits, with the inits in front, is the first of all orders that meet the problem
+--     runs-whole     each way on from the inits, with the inits in front, is an order that meets the problem
 --     whole-none     where the inits leave no way on, no order meets the problem
 --     from-..        lists that begin with the inits
 use Prim.Native.Nat.{ℕ, zero, suc, _+_, _<_, _≤_}
@@ -19,7 +20,7 @@ use Rattle.orders.specs.Step.{With, Below, Ready, Runs, Dead}
 use Rattle.orders.specs.Inits.{Begins}
 use Rattle.orders.proofs.FirstLaws.{Tri, below, same, above, tri}
 use Rattle.orders.proofs.StepLaws.{Same, same-sym, same-runs, same-dead, same-first, Best, first-step}
-use Rattle.orders.proofs.OrderLaws.{None, first-meets, none-meets}
+use Rattle.orders.proofs.OrderLaws.{None, runs-meets, first-meets, none-meets}
 
 with-swap : (S : ℕ → Type 0) (a b : ℕ) → Same (With (With S a) b) (With (With S b) a)
 with-swap S a b d = (swap a b, swap b a)
@@ -95,6 +96,18 @@ module _ (P : Problem) (k : ℕ) (begins : Begins P k) where
   whole-first l f =
       first-meets P begins (from 0 k ++ l)
       (same-first P (from 0 k ++ l) (Below 0) None none-below (early-first k 0 (omega arith) l (rw zero-add f)))
+
+  -- a way on from the inits, with the inits in front, is an order that meets the rules
+  early-runs : (c j : ℕ) → j + c ≤ k → (l : List ℕ) → Runs P (Below (j + c)) l → Runs P (Below j) (from j c ++ l)
+  unfolding from
+  early-runs zero j h l r = rw add-zero at r
+  early-runs (suc c) j h l r = (
+    below-ready j (omega arith),
+    same-runs P (from (suc j) c ++ l) (Below (suc j)) (With (Below j) j) (same-sym (With (Below j) j) (Below (suc j)) (below-suc j)) (early-runs c (suc j) (omega arith) l (rw (add-suc, ← suc-add) at r)),
+  )
+
+  pub runs-whole : (l : List ℕ) → Runs P (Below k) l → Meets P (from 0 k ++ l)
+  runs-whole l r = runs-meets P begins (from 0 k ++ l) (same-runs P (from 0 k ++ l) (Below 0) None none-below (early-runs k 0 (omega arith) l (rw zero-add r)))
 
   -- where the inits leave no order, none meets the rules
   pub whole-none : Dead P (Below k) → (l : List ℕ) → Meets P l → ⊥

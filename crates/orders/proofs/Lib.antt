@@ -3,3 +3,9 @@ pub mod StepLaws
 pub mod OrderLaws
 pub mod InitsLaws
 pub mod TablesLaws
+pub mod TrailLaws
+pub mod StandLaws
+pub mod SeekLaws
+pub mod ReachableLaws
+pub mod TallyLaws
+pub mod AnswerLaws

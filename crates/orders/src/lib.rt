@@ -15,7 +15,6 @@ ghost use Rattle.orders.specs.Tables.{tabled, Unbarred, Writers};
 ghost use Rattle.orders.specs.Walk.{Tried, NextIs, Entered, Starting, Walked, Gathered};
 ghost use Rattle.orders.specs.Answer.{Fits, Searched, Told, Answered};
 ghost use Rattle.orders.specs.Reachable.{Counting, Tallied};
-
 use sets::SLOTS;
 
 // How many masks of bars there are: one for each v and w.
@@ -334,7 +333,16 @@ pub fn count_sets(
     let mut path = [0u8; SLOTS];
     let need = sets::needed(events - inits);
     sets::clear(scratch, need);
-    let r = tally(inits, events, before, bars, &writers, scratch, &mut path, limit);
+    let r = tally(
+        inits,
+        events,
+        before,
+        bars,
+        &writers,
+        scratch,
+        &mut path,
+        limit,
+    );
     sets::clear(scratch, need);
     r
 }

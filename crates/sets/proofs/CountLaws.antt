@@ -1,19 +1,20 @@
 -- The laws of specs/Count.antt, and the size of a set. Assumes nothing.
 --     count-same count-none count-all count-more count-mono count-le count-full    how many pass, by what passes
---     size-insert size-full size-le size-within    the number of a set's members
+--     size-insert size-full size-first    the number of a set's members
 use mathlib.Core.Path.{_≡_, refl, sym, ap, ap₂, _∙_}
 use mathlib.Core.Bool.{Bool, true, false, _||_, or-false, false≢true}
-use Prim.Native.Nat.{ℕ, zero, suc, _+_, _≤_, _<_, zero-le}
-use native.Mathlib.Nat.{not-suc-le-zero, le-trans, add-suc, le-of-eq, zero-add, le-add-left, lt-irrefl}
+use Prim.Native.Nat.{ℕ, zero, suc, _+_, _-_, _≤_, _<_, zero-le}
+use native.Mathlib.Nat.{not-suc-le-zero, le-trans, add-suc, le-of-eq, zero-add, add-zero, le-add-left, lt-irrefl}
 use native.Mathlib.Decide.{ℕ-discrete}
 use native.Mathlib.Numerals.{one-add}
 use native.Mathlib.Omega.{arith}
 use borrow.Author.Tests.{eq-eqb, ne-eqb}
 use lib.Dec.{eqb}
+use lib.Pow.{ones-lt}
 use Rattle.sets.specs.Mask.{mem, pick, insert, full}
 use Rattle.sets.specs.Count.{count}
 use Rattle.sets.proofs.BoolLaws.{by-bool}
-use Rattle.sets.proofs.MaskLaws.{mem-insert, mem-full, mem-beyond, full-has}
+use Rattle.sets.proofs.MaskLaws.{mem-insert, mem-full, mem-beyond}
 
 pub count-same : (f g : ℕ → Bool) (n : ℕ) → ((x : ℕ) → x < n → f x ≡ g x) → count f n ≡ count g n
 unfolding count
@@ -86,6 +87,12 @@ count-full f (suc n) h x l = by-bool (f n) (λ y. go y (λ k. count-full f n (be
     go y rest (yes p) = ap f p ∙ y
     go y rest (no q) = rest (omega arith)
 
+-- nothing passes from k on
+pub count-beyond : (f : ℕ → Bool) (k j : ℕ) → ((x : ℕ) → k ≤ x → f x ≡ false) → count f (k + j) ≡ count f k
+unfolding count
+count-beyond f k zero h = ap (count f) (add-zero k)
+count-beyond f k (suc j) h = ap (count f) (add-suc k j) ∙ ap (λ (b : Bool). pick b 1 0 + count f (k + j)) (h (k + j) (omega arith)) ∙ zero-add (count f (k + j)) ∙ count-beyond f k j h
+
 -- ---- the members of a set
 
 -- an event that is not in s makes it one larger
@@ -94,3 +101,9 @@ size-insert n s e l h = count-more (mem s) (mem (insert s e)) n e l h (λ d k. m
 
 pub size-full : (n : ℕ) → count (mem (full n)) n ≡ n
 size-full n = count-all (mem (full n)) n (λ e l. mem-full n e l)
+
+-- the first k of n events
+pub size-first : (k n : ℕ) → k ≤ n → count (mem (full k)) n ≡ k
+size-first k n l =
+    let e : k + (n - k) ≡ n = omega arith in
+    ap (count (mem (full k))) (sym e) ∙ count-beyond (mem (full k)) k (n - k) (λ x h. mem-beyond k (full k) x (ones-lt k) h) ∙ size-full k

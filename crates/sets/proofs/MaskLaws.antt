@@ -355,6 +355,9 @@ remove-cases s e d h = go (ℕ-discrete d e)
 pub insert-gt : (s e : ℕ) → mem s e ≡ false → s < insert s e
 insert-gt s e h = let q = insert-out s e h in omega (arith, pow-pos e)
 
+pub insert-ge : (s e : ℕ) → s ≤ insert s e
+insert-ge s e = by-bool (mem s e) (λ h. let q = insert-in s e h in omega arith) (λ h. let q = insert-gt s e h in omega arith)
+
 pub full-has : (n e : ℕ) → Has (full n) e → e < n
 full-has n e = mem-lt n (full n) e (ones-lt n)
 

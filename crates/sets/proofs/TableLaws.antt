@@ -1,17 +1,19 @@
 -- The laws of specs/Table.antt. Assumes nothing.
 --     marked-marking marked-cleared            what is marked after a mark, and in a cleared table
+--     marking-new marking-old marking-cases    the first as facts
 --     length-marking drop-marking              a mark changes nothing else
 --     bytes-few bytes-many place-within        how many bytes the sets of n events take
 --     cleared-within cleared-rest cleared-again length-cleared    a cleared table
 --     marks-marking marks-cleared              the number of marks
 use mathlib.Core.Path.{_≡_, refl, sym, ap, ap₂, _∙_, subst}
 use mathlib.Core.Bool.{Bool, true, false, _||_, or-false}
+use mathlib.Core.Logic.{_⊎_, inl, inr, ⊎-elim}
 use mathlib.Core.List.{List, _++_}
 use Prim.Native.Nat.{ℕ, suc, _+_, _-_, _*_, _/_, _%_, _^_, _≤_, _<_, max, min}
 use native.Mathlib.Nat.{lt-of-lt-of-le, le-of-suc-le-suc, sub-add-cancel}
 use native.Mathlib.Decide.{ℕ-discrete, decLt}
 use native.Mathlib.Omega.{arith}
-use borrow.Author.Tests.{eq-eqb, ne-eqb}
+use borrow.Author.Tests.{eq-eqb, ne-eqb, eqb-true}
 use lib.Dec.{eqb}
 use lib.ListN.{length, getD, set, drop, replicate, length-append, length-drop, length-set, length-replicate, getD-replicate, drop-of-length-le, List·getD-append}
 use lib.Seq.{getD-set-same, getD-set-other, drop-set-lt, drop-at}
@@ -19,6 +21,7 @@ use lib.Pow.{pow-pos, pow-add, pow-mono}
 use Rattle.sets.specs.Mask.{mem, insert}
 use Rattle.sets.specs.Count.{count}
 use Rattle.sets.specs.Table.{isMarked, marking, bytesFor, cleared}
+use Rattle.sets.proofs.BoolLaws.{eqb-self, or-cases, or-left, or-right}
 use Rattle.sets.proofs.MaskLaws.{mem-insert, mem-empty}
 use Rattle.sets.proofs.CountLaws.{count-more, count-none}
 
@@ -53,6 +56,17 @@ module _ (t : List ℕ) (x y : ℕ) (h : x / 8 < length t) (v : ℕ) (e : v ≡ 
 pub marked-marking : (t : List ℕ) (x y : ℕ) → x / 8 < length t → isMarked (marking t x) y ≡ (isMarked t y || eqb y x)
 unfolding isMarked marking
 marked-marking t x y h = marked-set t x y h (insert (getD t (x / 8) 0) (x % 8)) refl (ℕ-discrete (y / 8) (x / 8))
+
+-- the same as facts
+module _ (t : List ℕ) (x : ℕ) (h : x / 8 < length t) where
+  pub marking-new : isMarked (marking t x) x ≡ true
+  marking-new = marked-marking t x x h ∙ or-right (isMarked t x) (eqb x x) (eqb-self x)
+
+  pub marking-old : (y : ℕ) → isMarked t y ≡ true → isMarked (marking t x) y ≡ true
+  marking-old y g = marked-marking t x y h ∙ or-left (isMarked t y) (eqb y x) g
+
+  pub marking-cases : (y : ℕ) → isMarked (marking t x) y ≡ true → (isMarked t y ≡ true) ⊎ (y ≡ x)
+  marking-cases y g = ⊎-elim inl (λ q. inr (eqb-true y x q)) (or-cases (isMarked t y) (eqb y x) (sym (marked-marking t x y h) ∙ g))
 
 -- ---- a cleared table
 

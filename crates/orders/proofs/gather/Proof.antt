@@ -1,50 +1,57 @@
+-- `orders::gather` meets its contract: the first v masks are gathered. The measure is what is left. Assumes nothing.
+use mathlib.Core.Path.{_≡_, sym, ap, _∙_, subst}
+use Prim.Native.Nat.{ℕ, _+_, _-_, _*_, _≤_, _<_}
+use native.Mathlib.Omega.{arith}
+use borrow.Author.Count.{below-more}
+use borrow.Author.Needs.{needs}
+use denote.Ref.{now}
+use lib.ListN.{length, getD, set, length-set}
+use lib.Seq.{getD-set-same, getD-set-other}
+use Rattle.orders.specs.Tables.{Writers}
 use Rattle.orders.proofs.gather.Statement.{statement}
 use Rattle.orders.proofs.gather.Tie as tie
-use Rattle.orders.proofs.gather.Reads as reads
-use Rattle.orders.proofs.gather.Lts as lts
-use Rattle.orders.proofs.writers_of.Reads as writers-of-reads
 
 abbrev Inv-loop : tie.InvT-loop
-Inv-loop m bars writers₀ v₀ writers v = ?
+Inv-loop m bars writers₀ v₀ writers v = (v ≤ m) × (length writers ≡ length writers₀) × ((x : ℕ) → x < v → Writers m bars x (getD writers x 0))
 
 abbrev μ-loop : tie.MeasureT-loop
-μ-loop m bars writers₀ v₀ writers v = ?
+μ-loop m bars writers₀ v₀ writers v = m - v
 
--- src/lib.rt:45:5
 loop-holds : tie.Need-loop-holds Inv-loop μ-loop
-loop-holds c = ?
+loop-holds c = (omega arith, mathlib.Core.Path.refl, λ x h. absurd (omega arith))
 
--- src/lib.rt:46:22
 writers-of-requires : tie.Need-writers-of-requires Inv-loop μ-loop
-writers-of-requires c κs = ?
+writers-of-requires c κs = omega arith
 
--- src/lib.rt:46:9
 mul-writers : tie.Need-mul-writers Inv-loop μ-loop
-mul-writers c = ?
+mul-writers c = omega arith
 
--- src/lib.rt:46:9
 slice-write-writers : tie.Need-slice-write-writers Inv-loop μ-loop
-slice-write-writers c = ?
+slice-write-writers c = omega arith
 
--- src/lib.rt:45:9
 add-v : tie.Need-add-v Inv-loop μ-loop
-add-v c = ?
+add-v c = omega arith
 
--- src/lib.rt:45:5
 loop-less : tie.Need-loop-less Inv-loop μ-loop
-loop-less c = ?
+loop-less c = omega arith
 
--- src/lib.rt:45:5
 loop-again : tie.Need-loop-again Inv-loop μ-loop
-loop-again c = ?
+loop-again c =
+    let l = c .before .before .loop in
+    let a = c .before .before .before .before .args in
+    let r = c .writers-of .result in (
+      omega arith,
+      length-set (l .writers) (l .v) r ∙ l .inv .1,
+      below-more (λ (x : ℕ). Writers (a .m) (now (a .bars)) x (getD (set (l .writers) (l .v) r) x 0)) (l .v)
+          (λ x h. subst (Writers (a .m) (now (a .bars)) x) (sym (getD-set-other (l .writers) (l .v) x r 0 (λ q. omega arith))) (l .inv .2 x h))
+          (subst (Writers (a .m) (now (a .bars)) (l .v)) (sym (getD-set-same (l .writers) (l .v) r 0 (omega arith))) (c .writers-of .ensures)),
+    )
 
--- src/lib.rt:41:1
 same-length : tie.Need-same-length Inv-loop μ-loop
-same-length c = ?
+same-length c = c .before .loop .inv .1
 
--- src/lib.rt:41:1
 returns : tie.Need-returns Inv-loop μ-loop
-returns c = ?
+returns c = λ x h. c .before .loop .inv .2 x (omega arith)
 
 pub gather-spec : {M : Type 1} → statement M
 gather-spec =

@@ -1,43 +1,54 @@
+-- `orders::may` meets its contract: its three tests are the fields of `Ready`. Assumes nothing.
+use mathlib.Core.Path.{_≡_, sym, ap, _∙_}
+use Prim.Native.Nat.{ℕ, _%_}
+use native.Mathlib.Nat.{mod-eq-of-lt}
+use native.Mathlib.Omega.{arith}
 use borrow.Author.Needs.{needs}
+use borrow.Author.Tests.{not-true, not-false}
+use denote.Ref.{now}
+use Rattle.sets.specs.Mask.{slots, mem}
+use Rattle.sets.proofs.BoolLaws.{not-both-ways}
+use Rattle.sets.proofs.TellsLaws.{tells-no, tells-map}
+use Rattle.orders.proofs.TablesLaws.{ready-of, ready-within, ready-unbarred}
 use Rattle.orders.proofs.may.Statement.{statement}
 use Rattle.orders.proofs.may.Tie as tie
-use Rattle.orders.proofs.may.Reads as reads
-use Rattle.orders.proofs.may.Lts as lts
-use Rattle.orders.proofs.unbarred.Reads as unbarred-reads
-use Rattle.sets.proofs.has.Reads as has-reads
-use Rattle.sets.proofs.subset.Reads as subset-reads
 
--- src/lib.rt:71:8
 has-requires : tie.Need-has-requires
 has-requires c κs = search needs
 
--- src/lib.rt:72:9
 returns : tie.Need-returns
-returns c = ?
+returns c =
+    let a = c .before .before .args in
+    let v : a .v % slots ≡ a .v = mod-eq-of-lt (omega arith) in
+    tells-no (λ h. h .fresh (sym (c .before .has .ensures ∙ ap (mem (a .s)) v) ∙ c .if1 .taken))
 
--- src/lib.rt:74:22
 mul-subset : tie.Need-mul-subset
 mul-subset c = search needs
 
--- src/lib.rt:74:22
 element-copy-out-subset : tie.Need-element-copy-out-subset
 element-copy-out-subset c = search needs
 
--- src/lib.rt:74:9
 subset-requires : tie.Need-subset-requires
 subset-requires c κs = search needs
 
--- src/lib.rt:75:9
 returns-2 : tie.Need-returns-2
-returns-2 c = ?
+returns-2 c =
+    let a = c .before .before .before .before .before .args in
+    tells-no (λ h. c .before .subset .ensures .fails (not-true _ (c .if2 .taken)) (ready-within (a .m) (now (a .before)) (now (a .bars)) (a .s) (a .v) h))
 
--- src/lib.rt:77:5
 unbarred-requires : tie.Need-unbarred-requires
 unbarred-requires c κs = search needs
 
--- src/lib.rt:67:1
 returns-3 : tie.Need-returns-3
-returns-3 c = ?
+returns-3 c =
+    let a = c .before .before .before .before .before .before .args in
+    let v : a .v % slots ≡ a .v = mod-eq-of-lt (omega arith) in
+    tells-map _
+    (ready-of (a .m) (now (a .before)) (now (a .bars)) (a .s) (a .v) (c .before .before .before .before .before .before .pre .1)
+    (λ h. not-both-ways h (sym (c .before .before .before .before .before .has .ensures ∙ ap (mem (a .s)) v) ∙ c .before .before .before .before .if1 .left))
+    (c .before .before .subset .ensures .holds (not-false _ (c .before .if2 .left))))
+    (ready-unbarred (a .m) (now (a .before)) (now (a .bars)) (a .s) (a .v))
+    (c .unbarred .ensures)
 
 pub may-spec : {M : Type 1} → statement M
 may-spec =

@@ -192,9 +192,9 @@ fn search(
     let mut writers = [0u32; SLOTS];
     gather(m, bars, &mut writers);
     let need = sets::needed(m - k);
-    sets::clear(scratch, need);
+    sets::clear(scratch, need); // whatever it held
     let found = walk(k, m, before, bars, &writers, scratch, path);
-    sets::clear(scratch, need);
+    sets::clear(scratch, need); // the marks of this search
     found
 }
 
@@ -332,7 +332,7 @@ pub fn count_sets(
     gather(events, bars, &mut writers);
     let mut path = [0u8; SLOTS];
     let need = sets::needed(events - inits);
-    sets::clear(scratch, need);
+    sets::clear(scratch, need); // before the count
     let r = tally(
         inits,
         events,
@@ -343,6 +343,6 @@ pub fn count_sets(
         &mut path,
         limit,
     );
-    sets::clear(scratch, need);
+    sets::clear(scratch, need); // after the count
     r
 }

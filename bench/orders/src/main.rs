@@ -98,6 +98,11 @@ fn check(t: &Task) {
     let a = first(t, &mut s1, &mut o1);
     let b = plain::first(INITS, t.events, &t.before, &t.bars, &mut s2, &mut o2);
     assert!(a == b && s1 == s2 && o1 == o2);
+    // one byte of scratch less, or of the order, is not enough: false, and nothing changed
+    let (short, less) = (need - 1, t.events - 1);
+    let (mut s3, mut o3) = (vec![7u8; need], [9u8; 40]);
+    assert!(!first(t, &mut s3[..short], &mut o3) && !first(t, &mut s3, &mut o3[..less]));
+    assert!(s3 == vec![7u8; need] && o3 == [9u8; 40]);
     let c = count(t, &mut s1);
     let d = match plain::count_sets(INITS, t.events, &t.before, &t.bars, &mut s2, usize::MAX) {
         plain::Reach::All(n) => n,
@@ -106,7 +111,27 @@ fn check(t: &Task) {
     assert!(c == d && s1 == s2);
 }
 
+// The two searches on every problem, buffers too; and on problems and buffers that do not fit.
+fn compare() {
+    let mut seen = 0;
+    for family in ["found", "none", "every", "count"] {
+        for n in 0..=18 {
+            if n < 4 && family == "none" || n == 0 && family == "every" {
+                continue;
+            }
+            for t in tasks(family, n) {
+                check(&t);
+                seen += 1;
+            }
+        }
+    }
+    println!("orders: the proved search and the ordinary one agree on {seen} problems");
+}
+
 fn main() {
+    if std::env::args().nth(1).as_deref() == Some("compare") {
+        return compare();
+    }
     let rounds: usize = std::env::args().nth(1).map_or(40, |s| s.parse().unwrap());
     println!("| Problems | Events | Rattle | Rust | Ratio |");
     println!("|---|---|---|---|---|");

@@ -21,11 +21,11 @@ use Rattle.orders.specs.First.{FirstOf}
 use Rattle.orders.specs.Step.{Below, Runs, Dead}
 use Rattle.orders.specs.Inits.{Begins}
 use Rattle.orders.specs.Tables.{tabled}
-use Rattle.orders.specs.Walk.{Starting, Walked}
-use Rattle.orders.specs.Answer.{Fits, Possible, Ordered, Searched, Told, Answered}
-use Rattle.orders.specs.declared.Reach.{Reach}
-use Rattle.orders.specs.declared.Reach.the-variants.{All, Over}
-use Rattle.orders.specs.Reachable.{Counting, CountIs, Tallied}
+use Rattle.orders.specs.Answer.{Fits, Possible, Ordered, Told, Answered}
+use Rattle.orders.specs.declared.Count.{Count}
+use Rattle.orders.specs.declared.Count.the-variants.{All, Over}
+use Rattle.orders.specs.Reachable.{CountIs, Tallied}
+use Rattle.orders.specs.Walk.{Starting, Walked, Counting, Searched}
 use Rattle.orders.proofs.FirstLaws.{first-unique}
 use Rattle.orders.proofs.TrailLaws.{runs-length}
 use Rattle.orders.proofs.InitsLaws.{from-length, from-take, whole-first, whole-none, runs-whole}
@@ -105,7 +105,7 @@ told-unique {k} {m} {scratch = scratch} r q {s} {t} a b = go (fits-or k m (lengt
     go (yes f) = possible-unique r q (a .fit f) (b .fit f)
     go (no f) = let x = a .unfit f in let y = b .unfit f in (x .0 ∙ sym (y .0), x .1 ∙ sym (y .1))
 
-pub tallied-unique : {k m : ℕ} {before bars scratch : List ℕ} {limit : ℕ} (r q : Reach) {s t : List ℕ}
+pub tallied-unique : {k m : ℕ} {before bars scratch : List ℕ} {limit : ℕ} (r q : Count) {s t : List ℕ}
     → Tallied k m before bars scratch limit r s → Tallied k m before bars scratch limit q t → (r ≡ q) × (s ≡ t)
 tallied-unique {k} {m} {before} {bars} {scratch} {limit} r q {s} {t} a b = go (fits-or k m (length scratch))
   where
@@ -150,7 +150,7 @@ searched P k scratch need {t} {u} {v} f e c w d =
       none = w .none;
     }
 
-pub tallied : (k m : ℕ) (before bars scratch : List ℕ) (limit need : ℕ) {t u v : List ℕ} {r : Reach} → Fits k m (length scratch)
+pub tallied : (k m : ℕ) (before bars scratch : List ℕ) (limit need : ℕ) {t u v : List ℕ} {r : Count} → Fits k m (length scratch)
     → need ≡ bytesFor (m - k) → t ≡ cleared need scratch → Counting (tabled m before bars) k t limit r u → v ≡ cleared need u
     → Tallied k m before bars scratch limit r v
 tallied k m before bars scratch limit need {t} {u} {v} f e c w d =

@@ -9,3 +9,4 @@ pub mod SeekLaws
 pub mod ReachableLaws
 pub mod TallyLaws
 pub mod AnswerLaws
+pub mod Promises

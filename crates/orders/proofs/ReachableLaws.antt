@@ -16,8 +16,8 @@ use lib.ListN.{length}
 use Rattle.basis.specs.Test.{from}
 use Rattle.sets.specs.Mask.{Has, insert, full, above}
 use Rattle.sets.proofs.MaskLaws.{mem-full, insert-lt, insert-old, above-lt, above-inj}
-use Rattle.orders.specs.declared.Reach.{Reach}
-use Rattle.orders.specs.declared.Reach.the-variants.{All, Over}
+use Rattle.orders.specs.declared.Count.{Count}
+use Rattle.orders.specs.declared.Count.the-variants.{All, Over}
 use Rattle.orders.specs.Problem.{Problem}
 use Rattle.orders.specs.Order.{In, Distinct}
 use Rattle.orders.specs.Step.{Ready}
@@ -78,7 +78,7 @@ exceeds-over x f =
     let o = x .over in
     omega arith
 
-pub count-unique : (P : Problem) (s₀ limit : ℕ) (p q : Reach) → CountIs P s₀ limit p → CountIs P s₀ limit q → p ≡ q
+pub count-unique : (P : Problem) (s₀ limit : ℕ) (p q : Count) → CountIs P s₀ limit p → CountIs P s₀ limit q → p ≡ q
 count-unique P s₀ limit (All b) (All c) f g = ap All (counted-unique (f .0) (g .0))
 count-unique P s₀ limit (All b) Over f g = absurd (let h = exceeds-over g (f .0) in let l = f .1 in omega arith)
 count-unique P s₀ limit Over (All c) f g = absurd (let h = exceeds-over f (g .0) in let l = g .1 in omega arith)

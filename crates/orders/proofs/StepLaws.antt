@@ -20,9 +20,6 @@ Same S T = (d : ℕ) → S d ↔ T d
 pub same-sym : (S T : ℕ → Type 0) → Same S T → Same T S
 same-sym S T h d = (h d .1, h d .0)
 
-pub same-trans : (S T U : ℕ → Type 0) → Same S T → Same T U → Same S U
-same-trans S T U f g d = ((λ s. g d .0 (f d .0 s)), (λ u. f d .1 (g d .1 u)))
-
 pub same-with : (S T : ℕ → Type 0) (e : ℕ) → Same S T → Same (With S e) (With T e)
 same-with S T e h d = (⊎-elim inl (λ s. inr (h d .0 s)), ⊎-elim inl (λ t. inr (h d .1 t)))
 

@@ -16,7 +16,8 @@ use Rattle.sets.proofs.BoolLaws.{not-both-ways, and-parts}
 use Rattle.sets.proofs.MaskLaws.{mem-lt, mem-and, mem-empty, mem-full, remove-le, remove-old, remove-cases, insert-new, insert-old, insert-cases, full-has}
 use Rattle.orders.specs.Problem.{Problem}
 use Rattle.orders.specs.Step.{With, Below, Ready}
-use Rattle.orders.specs.Tables.{barAt, tabled, Unbarred, Writers}
+use Rattle.orders.specs.Tables.{barAt, tabled}
+use Rattle.orders.specs.Walk.{Unbarred, Writers}
 use Rattle.orders.proofs.FirstLaws.{Tri, below, same, above, tri}
 use Rattle.orders.proofs.StepLaws.{Same}
 

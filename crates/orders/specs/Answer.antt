@@ -2,14 +2,13 @@
 --     Fits k m room        k inits of m events, and `room` bytes of scratch: what a search takes
 --     Possible P k ..      whether all events can be placed one at a time, from the set of the inits on
 --     Ordered P k ..       the first order in which they can
---     Searched P k ..      the same with what comes after the inits in a path
 --     Told ..              the answer of `possible`
 --     Answered ..          the answer of `first`
 use Prim.Native.Nat.{ℕ, _-_, _≤_}
 use mathlib.Core.Path.{_≡_}
 use mathlib.Core.Bool.{Bool, true, false}
 use mathlib.Core.List.{List, _++_}
-use lib.ListN.{length, take, drop}
+use lib.ListN.{length, drop}
 use Rattle.basis.specs.Test.{from}
 use Rattle.sets.specs.Mask.{slots}
 use Rattle.sets.specs.Table.{bytesFor, cleared}
@@ -36,11 +35,6 @@ pub record Ordered (P : Problem) (k : ℕ) (scratch order : List ℕ) (r : Bool)
   pub found : r ≡ true → (l : List ℕ) × FirstOf (Runs P (Below k)) l × (order′ ≡ (from 0 k ++ l) ++ drop (P .events) order)
   pub none : r ≡ false → Dead P (Below k)
   pub kept : r ≡ false → order′ ≡ order
-
-pub record Searched (P : Problem) (k : ℕ) (scratch : List ℕ) (r : Bool) (scratch′ path′ : List ℕ) : Type 0 where
-  pub clean : scratch′ ≡ cleared (bytesFor (P .events - k)) scratch
-  pub found : r ≡ true → FirstOf (Runs P (Below k)) (take (P .events - k) path′)
-  pub none : r ≡ false → Dead P (Below k)
 
 -- what does not fit is answered false, with nothing changed
 pub record Told (k m : ℕ) (before bars scratch : List ℕ) (r : Bool) (scratch′ : List ℕ) : Type 0 where

@@ -4,6 +4,7 @@ pub mod First
 pub mod Step
 pub mod Inits
 pub mod Tables
-pub mod Walk
 pub mod Answer
 pub mod Reachable
+pub mod Walk
+pub mod Promises

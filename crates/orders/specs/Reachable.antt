@@ -8,11 +8,11 @@
 use Prim.Native.Nat.{ℕ, _-_, _<_, _≤_}
 use mathlib.Core.Path.{_≡_}
 use mathlib.Core.List.{List}
-use lib.ListN.{length, drop}
+use lib.ListN.{length}
 use Rattle.sets.specs.Mask.{Has, insert, full}
 use Rattle.sets.specs.Table.{bytesFor, cleared}
-use Rattle.orders.specs.declared.Reach.{Reach}
-use Rattle.orders.specs.declared.Reach.the-variants.{All, Over}
+use Rattle.orders.specs.declared.Count.{Count}
+use Rattle.orders.specs.declared.Count.the-variants.{All, Over}
 use Rattle.orders.specs.Problem.{Problem}
 use Rattle.orders.specs.Order.{In, Distinct}
 use Rattle.orders.specs.Step.{Ready}
@@ -39,17 +39,11 @@ pub record Exceeds (P : Problem) (s₀ limit : ℕ) : Type 0 where
   pub over : limit < length sets
 
 -- 02 §9: unfinished "exactly when .. the number of reachable sets .. is over the limit"
-abbrev pub CountIs : Problem → ℕ → ℕ → Reach → Type 0
+abbrev pub CountIs : Problem → ℕ → ℕ → Count → Type 0
 CountIs P s₀ limit (All c) = Counted P s₀ c × (c ≤ limit)
 CountIs P s₀ limit Over = Exceeds P s₀ limit
 
--- the end of a walk that counts
-pub record Counting (P : Problem) (k : ℕ) (table : List ℕ) (limit : ℕ) (r : Reach) (table′ : List ℕ) : Type 0 where
-  pub count : CountIs P (full k) limit r
-  pub size : length table′ ≡ length table
-  pub rest : drop (bytesFor (P .events - k)) table′ ≡ drop (bytesFor (P .events - k)) table
-
 -- what does not fit is answered All(0), which no count is, with nothing changed
-pub record Tallied (k m : ℕ) (before bars scratch : List ℕ) (limit : ℕ) (r : Reach) (scratch′ : List ℕ) : Type 0 where
+pub record Tallied (k m : ℕ) (before bars scratch : List ℕ) (limit : ℕ) (r : Count) (scratch′ : List ℕ) : Type 0 where
   pub fit : Fits k m (length scratch) → CountIs (tabled m before bars) (full k) limit r × (scratch′ ≡ cleared (bytesFor (m - k)) scratch)
   pub unfit : (Fits k m (length scratch) → ⊥) → (r ≡ All 0) × (scratch′ ≡ scratch)

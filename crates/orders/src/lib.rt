@@ -11,10 +11,10 @@ ghost use Rattle.basis.specs.Test.{from};
 ghost use Rattle.sets.specs.Tells.{Tells};
 ghost use Rattle.sets.specs.Mask.{slots, Has};
 ghost use Rattle.orders.specs.Step.{Ready};
-ghost use Rattle.orders.specs.Tables.{tabled, Unbarred, Writers};
-ghost use Rattle.orders.specs.Walk.{Tried, NextIs, Entered, Starting, Walked, Gathered};
-ghost use Rattle.orders.specs.Answer.{Fits, Searched, Told, Answered};
-ghost use Rattle.orders.specs.Reachable.{Counting, Tallied};
+ghost use Rattle.orders.specs.Tables.{tabled};
+ghost use Rattle.orders.specs.Answer.{Fits, Told, Answered};
+ghost use Rattle.orders.specs.Reachable.{Tallied};
+ghost use Rattle.orders.specs.Walk.{Unbarred, Writers, Gathered, Tried, NextIs, Starting, Entered, Walked, Counting, Searched};
 use sets::SLOTS;
 
 // How many masks of bars there are: one for each v and w.
@@ -265,7 +265,7 @@ pub fn possible(
 // ---- how many sets can be built
 
 // The number of the sets that can be built from that of the inits, or that it is over a limit.
-pub enum Reach {
+pub enum Count {
     All(usize),
     Over,
 }
@@ -280,12 +280,12 @@ fn tally(
     table: &mut [u8],
     path: &mut [u8],
     limit: usize,
-) -> Reach
+) -> Count
     requires { ⌜ Starting (tabled m (now before) (now bars)) k (now table) (now path) × Gathered m (now bars) (now writers) ⌝ }
     ensures { λ r. ⌜ Counting (tabled m (now (before .entry)) (now (bars .entry))) k (now (table .entry)) limit r (now (table .exit)) ⌝ }
 {
     if limit == 0 {
-        return Reach::Over;
+        return Count::Over;
     }
     let mut s = sets::full(k);
     let mut depth: usize = 0;
@@ -295,7 +295,7 @@ fn tally(
         let e = next(k, m, before, bars, writers, table, s, from);
         if e < m {
             if limit <= n {
-                return Reach::Over;
+                return Count::Over;
             }
             s = enter(k, s, e, table, path, depth);
             depth += 1;
@@ -303,7 +303,7 @@ fn tally(
             n += 1;
         } else {
             if depth == 0 {
-                return Reach::All(n);
+                return Count::All(n);
             }
             depth -= 1;
             let x = last(path, depth);
@@ -322,11 +322,11 @@ pub fn count_sets(
     bars: &[u32; PAIRS],
     scratch: &mut [u8],
     limit: usize,
-) -> Reach
+) -> Count
     ensures { λ r. ⌜ Tallied inits events (now (before .entry)) (now (bars .entry)) (now (scratch .entry)) limit r (now (scratch .exit)) ⌝ }
 {
     if !fits(inits, events, scratch.len()) {
-        return Reach::All(0);
+        return Count::All(0);
     }
     let mut writers = [0u32; SLOTS];
     gather(events, bars, &mut writers);

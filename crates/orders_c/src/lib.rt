@@ -1,7 +1,7 @@
 // The search under the C calling convention, for benchmarks. No function has a `requires`; tables are arrays, so that their lengths are fixed.
 ghost use Rattle.orders.specs.Answer.{Told, Answered};
 ghost use Rattle.orders_c.specs.Exported.{Exported};
-use orders::Reach;
+use orders::Count;
 
 #[no_mangle]
 pub extern "C" fn plimdrong_first(
@@ -44,7 +44,7 @@ pub extern "C" fn plimdrong_count_sets(
 {
     let answer = orders::count_sets(inits, events, before, bars, scratch, limit);
     match answer {
-        Reach::All(n) => n,
-        Reach::Over => 18446744073709551615,
+        Count::All(n) => n,
+        Count::Over => 18446744073709551615,
     }
 }

@@ -3,7 +3,7 @@ ghost use Prim.Native.Nat.{_+_, _*_, _<_, _≤_};
 ghost use lib.ListN.{length};
 use libc::STDIN_FILENO;
 use libc::STDOUT_FILENO;
-use orders::Reach;
+use orders::Count;
 
 // What every lent buffer holds at first.
 const FILL: u8 = 170;
@@ -129,7 +129,7 @@ fn possible(k: usize, m: usize, before: &[u32; 32], bars: &[u32; 1024], scratch:
     }
 }
 
-fn count(
+fn counted(
     k: usize,
     m: usize,
     before: &[u32; 32],
@@ -139,12 +139,12 @@ fn count(
 ) {
     let answer = orders::count_sets(k, m, before, bars, scratch, limit);
     match answer {
-        Reach::All(n) => {
+        Count::All(n) => {
             words(b"sets ");
             io::print_decimal(STDOUT_FILENO, n as u64);
             words(b" ");
         }
-        Reach::Over => {
+        Count::Over => {
             words(b"over ");
         }
     }
@@ -193,7 +193,7 @@ fn run_count(
     scratch: &mut [u8],
 ) -> bool {
     let r = least(room, scratch.len());
-    count(k, m, before, bars, &mut scratch[..r], limit);
+    counted(k, m, before, bars, &mut scratch[..r], limit);
     clean(scratch, cleared(k, m, r))
 }
 

@@ -20,8 +20,9 @@ use lib.ListN.{length, getD, drop}
 use lib.Seq.{getD-drop, ext-getD}
 use lib.Bits.{bitOr}
 use Rattle.sets.specs.Mask.{mem, Has, pick, insert}
-use Rattle.sets.specs.Closure.{Reach, Square, absorb, Swept, Closed, IsColumn}
+use Rattle.sets.specs.Closure.{Reach, Square, Closed, IsColumn}
 use Rattle.sets.specs.Closure.Reach.{step, more}
+use Rattle.sets.specs.Sweep.{absorb, Swept}
 use Rattle.sets.proofs.BoolLaws.{bool-ext, by-bool, eqb-self, or-cases, or-left, or-right, and-parts}
 use Rattle.sets.proofs.MaskLaws.{ext, ext-all, mem-beyond, mem-insert, insert-lt, mem-or, mem-lt, lt-of-members}
 

@@ -9,6 +9,7 @@
 --     lowest-in lowest-least lowest-none    the lowest member, as the machine counts it
 --     lowest-unique                         there is one
 --     remove-insert remove-lt               a member taken away
+--     at-slot                               an event below `slots` is its own place in a mask
 --     above-inj                             a set that has the first k events is known by the others
 use mathlib.Core.Path.{_≡_, refl, sym, ap, ap₂, _∙_, subst}
 use mathlib.Core.Bool.{Bool, true, false, not, _&&_, _||_, or-true, or-false, and-false, and-true, false≢true}
@@ -284,6 +285,10 @@ lowest-least (suc w) s d l = go (s % 2) refl d l (λ d′ l′. lowest-least w (
     go zero e (suc d) l f = mem-suc s d ∙ f d (le-of-suc-le-suc l)
     go (suc b) e d l f = absurd (not-suc-le-zero l)
 
+-- an event below `slots` is its own place in a mask
+pub at-slot : {A : Type 0} (f : ℕ → A) (e : ℕ) → e < slots → f (e % slots) ≡ f e
+at-slot f e l = ap f (mod-eq-of-lt l)
+
 -- ---- what the machine's shifts give
 
 -- `1 << e` in w bits
@@ -322,10 +327,6 @@ unfolding remove
 remove-lt s e h =
     let low : 2 ^ e ≤ s = member-le s e h in
     subst (λ (x : Bool). pick x (s - 2 ^ e) s < s) (sym h) (omega (arith, pow-pos e))
-
--- a set with no member is 0, and one with a member is not
-pub empty-of : (s : ℕ) → ((e : ℕ) → mem s e ≡ false) → s ≡ 0
-empty-of s f = ext-all s 0 (λ e. f e ∙ sym (mem-empty e))
 
 pub within-antisym : (a b : ℕ) → Within a b → Within b a → a ≡ b
 within-antisym a b f g = ext-all a b (λ e. bool-ext (mem a e) (mem b e) (f e) (g e))

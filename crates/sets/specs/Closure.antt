@@ -3,8 +3,6 @@
 --     taken n rows            how many of n rows are worked on: those that are there, and at most a mask's bits
 --     Reach n rows e d        d is reached from e by one or more steps, each but the last to a number below n
 --     Square n rows           the first n rows have no member but the numbers below n: then Reach n is plain reachability
---     absorb x k row          the row x after pivot k, whose row is `row`
---     Swept n k rows rows′    each of the first n rows after pivot k, and the others as they were
 --     Closed n rows rows′     the first n rows of rows′ are the closure of those of rows, and the others are as they were
 --     IsColumn rows n e c     c is the set of the numbers below n whose row has e
 use mathlib.Core.Path.{_≡_}
@@ -12,8 +10,7 @@ use mathlib.Core.List.{List}
 use mathlib.Core.Logic.{_↔_}
 use Prim.Native.Nat.{ℕ, _^_, _<_, min}
 use lib.ListN.{getD, length, drop}
-use lib.Bits.{bitOr}
-use Rattle.sets.specs.Mask.{slots, mem, Has, pick}
+use Rattle.sets.specs.Mask.{slots, mem, Has}
 
 abbrev pub taken : ℕ → List ℕ → ℕ
 taken n rows = min n (min slots (length rows))
@@ -24,14 +21,6 @@ pub data Reach (n : ℕ) (rows : List ℕ) : ℕ → ℕ → Type 0 where
 
 abbrev pub Square : ℕ → List ℕ → Type 0
 Square n rows = (e : ℕ) → e < n → getD rows e 0 < 2 ^ n
-
-unfoldable pub absorb : ℕ → ℕ → ℕ → ℕ
-absorb x k row = pick (mem x k) (bitOr x row) x
-
-pub record Swept (n k : ℕ) (rows rows′ : List ℕ) : Type 0 where
-  pub size : length rows′ ≡ length rows
-  pub each : (e : ℕ) → e < n → getD rows′ e 0 ≡ absorb (getD rows e 0) k (getD rows k 0)
-  pub rest : drop n rows′ ≡ drop n rows
 
 pub record Closed (n : ℕ) (rows rows′ : List ℕ) : Type 0 where
   pub size : length rows′ ≡ length rows

@@ -3,3 +3,4 @@ pub mod Mask
 pub mod Count
 pub mod Table
 pub mod Closure
+pub mod Sweep

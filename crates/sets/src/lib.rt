@@ -5,7 +5,8 @@ ghost use lib.ListN.{length};
 ghost use Rattle.sets.specs.Tells.{Tells};
 ghost use Rattle.sets.specs.Mask.{slots, mem, Within, insert, remove, full, above, Lowest};
 ghost use Rattle.sets.specs.Table.{isMarked, marking, bytesFor, cleared};
-ghost use Rattle.sets.specs.Closure.{taken, absorb, Swept, Closed, IsColumn};
+ghost use Rattle.sets.specs.Closure.{taken, Closed, IsColumn};
+ghost use Rattle.sets.specs.Sweep.{absorb, Swept};
 
 // How many events a mask can hold: its bits.
 pub const SLOTS: usize = 32;

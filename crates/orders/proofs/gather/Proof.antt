@@ -7,7 +7,7 @@ use borrow.Author.Needs.{needs}
 use denote.Ref.{now}
 use lib.ListN.{length, getD, set, length-set}
 use lib.Seq.{getD-set-same, getD-set-other}
-use Rattle.orders.specs.Tables.{Writers}
+use Rattle.orders.specs.Walk.{Writers}
 use Rattle.orders.proofs.gather.Statement.{statement}
 use Rattle.orders.proofs.gather.Tie as tie
 

@@ -7,7 +7,7 @@ use native.Mathlib.Omega.{arith}
 use borrow.Author.Needs.{needs}
 use denote.Ref.{now}
 use Rattle.sets.specs.Mask.{slots, insert}
-use Rattle.orders.specs.Tables.{Writers}
+use Rattle.orders.specs.Walk.{Writers}
 use Rattle.orders.proofs.TablesLaws.{writers-none, writers-in, writers-out}
 use Rattle.orders.proofs.writers_of.Statement.{statement}
 use Rattle.orders.proofs.writers_of.Tie as tie

@@ -8,14 +8,14 @@ use Rattle.orders_runs.proofs.run_count.Tie as tie
 least-requires : tie.Need-least-requires
 least-requires c κs = search needs
 
-slice-relend-prefix-count : tie.Need-slice-relend-prefix-count
-slice-relend-prefix-count c = search needs
+slice-relend-prefix-counted : tie.Need-slice-relend-prefix-counted
+slice-relend-prefix-counted c = search needs
 
-slice-aggregate-count : tie.Need-slice-aggregate-count
-slice-aggregate-count c = simp length-take (omega arith)
+slice-aggregate-counted : tie.Need-slice-aggregate-counted
+slice-aggregate-counted c = simp length-take (omega arith)
 
-count-requires : tie.Need-count-requires
-count-requires c κs = search needs
+counted-requires : tie.Need-counted-requires
+counted-requires c κs = search needs
 
 cleared-requires : tie.Need-cleared-requires
 cleared-requires c κs = search needs
@@ -34,9 +34,9 @@ run-count-spec =
     tie.close
     (tie.spec
     least-requires
-    slice-relend-prefix-count
-    slice-aggregate-count
-    count-requires
+    slice-relend-prefix-counted
+    slice-aggregate-counted
+    counted-requires
     cleared-requires
     clean-requires
     same-length

@@ -10,7 +10,7 @@ use denote.Ref.{now}
 use lib.ListN.{length, getD, set, drop, length-set}
 use lib.Seq.{getD-set-same, getD-set-other, drop-set-lt}
 use Rattle.sets.specs.Mask.{slots}
-use Rattle.sets.specs.Closure.{absorb, Swept}
+use Rattle.sets.specs.Sweep.{absorb, Swept}
 use Rattle.sets.proofs.sweep.Statement.{statement}
 use Rattle.sets.proofs.sweep.Tie as tie
 

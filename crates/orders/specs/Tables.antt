@@ -1,0 +1,20 @@
+-- The problem that two tables of masks state. Laws: proofs/TablesLaws.antt. Assumes nothing.
+--     tabled m before bars     the problem with m events: before[b] is the mask of the a that have to come before b, and
+--                              bars[v * 32 + w] that of the r with a bar (r, w, v)
+--     barAt bars v w           where the bars of v and w stand
+use Prim.Native.Nat.{ℕ, _+_, _*_, _<_}
+use mathlib.Core.List.{List}
+use lib.ListN.{getD}
+use Rattle.sets.specs.Mask.{slots, Has}
+use Rattle.orders.specs.Problem.{Problem}
+
+abbrev pub barAt : List ℕ → ℕ → ℕ → ℕ
+barAt bars v w = getD bars (v * slots + w) 0
+
+abbrev pub tabled : ℕ → List ℕ → List ℕ → Problem
+tabled m before bars =
+    record {
+      events = m;
+      Before = λ a b. (b < m) × Has (getD before b 0) a;
+      Bar = λ r w v. (v < m) × (w < m) × Has (barAt bars v w) r;
+    }

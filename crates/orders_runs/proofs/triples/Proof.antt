@@ -1,0 +1,93 @@
+-- `orders_runs::triples` is safe and ends: the measure is what is left. Assumes nothing.
+use mathlib.Core.Path.{_≡_}
+use Prim.Native.Nat.{_≤_, _-_}
+use native.Mathlib.Omega.{arith}
+use borrow.Author.Needs.{needs}
+use lib.ListN.{length}
+use Rattle.orders_runs.proofs.triples.Statement.{statement}
+use Rattle.orders_runs.proofs.triples.Tie as tie
+
+abbrev Inv-loop : tie.InvT-loop
+Inv-loop «data» at n bars₀ i₀ bars i = (i ≤ n) × (length bars ≡ length bars₀)
+
+abbrev μ-loop : tie.MeasureT-loop
+μ-loop «data» at n bars₀ i₀ bars i = n - i
+
+loop-holds : tie.Need-loop-holds Inv-loop μ-loop
+loop-holds c = search needs
+
+mul-byte : tie.Need-mul-byte Inv-loop μ-loop
+mul-byte c = search needs
+
+add-byte : tie.Need-add-byte Inv-loop μ-loop
+add-byte c = search needs
+
+byte-requires : tie.Need-byte-requires Inv-loop μ-loop
+byte-requires c κs = search needs
+
+mul-byte-2 : tie.Need-mul-byte-2 Inv-loop μ-loop
+mul-byte-2 c = search needs
+
+add-byte-2 : tie.Need-add-byte-2 Inv-loop μ-loop
+add-byte-2 c = search needs
+
+add-byte-3 : tie.Need-add-byte-3 Inv-loop μ-loop
+add-byte-3 c = search needs
+
+byte-requires-2 : tie.Need-byte-requires-2 Inv-loop μ-loop
+byte-requires-2 c κs = search needs
+
+mul-byte-3 : tie.Need-mul-byte-3 Inv-loop μ-loop
+mul-byte-3 c = search needs
+
+add-byte-4 : tie.Need-add-byte-4 Inv-loop μ-loop
+add-byte-4 c = search needs
+
+add-byte-5 : tie.Need-add-byte-5 Inv-loop μ-loop
+add-byte-5 c = search needs
+
+byte-requires-3 : tie.Need-byte-requires-3 Inv-loop μ-loop
+byte-requires-3 c κs = search needs
+
+put-bar-requires : tie.Need-put-bar-requires Inv-loop μ-loop
+put-bar-requires c κs = search needs
+
+add-i : tie.Need-add-i Inv-loop μ-loop
+add-i c = search needs
+
+loop-less : tie.Need-loop-less Inv-loop μ-loop
+loop-less c = search needs
+
+loop-again : tie.Need-loop-again Inv-loop μ-loop
+loop-again c = search needs
+
+same-length : tie.Need-same-length Inv-loop μ-loop
+same-length c = search needs
+
+returns : tie.Need-returns Inv-loop μ-loop
+returns c = search needs
+
+pub triples-spec : {M : Type 1} → statement M
+triples-spec =
+    tie.close
+    (tie.spec
+    Inv-loop
+    μ-loop
+    loop-holds
+    mul-byte
+    add-byte
+    byte-requires
+    mul-byte-2
+    add-byte-2
+    add-byte-3
+    byte-requires-2
+    mul-byte-3
+    add-byte-4
+    add-byte-5
+    byte-requires-3
+    put-bar-requires
+    add-i
+    loop-less
+    loop-again
+    same-length
+    returns)

@@ -1,0 +1,6 @@
+pub mod Tells
+pub mod Mask
+pub mod Count
+pub mod Table
+pub mod Closure
+pub mod Sweep

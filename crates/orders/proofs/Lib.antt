@@ -1,0 +1,11 @@
+pub mod FirstLaws
+pub mod StepLaws
+pub mod OrderLaws
+pub mod InitsLaws
+pub mod TablesLaws
+pub mod TrailLaws
+pub mod StandLaws
+pub mod SeekLaws
+pub mod ReachableLaws
+pub mod TallyLaws
+pub mod AnswerLaws

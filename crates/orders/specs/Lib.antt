@@ -1,0 +1,9 @@
+pub mod Problem
+pub mod Order
+pub mod First
+pub mod Step
+pub mod Inits
+pub mod Tables
+pub mod Walk
+pub mod Answer
+pub mod Reachable

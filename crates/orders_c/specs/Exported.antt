@@ -1,0 +1,18 @@
+-- The count of reachable sets as one number. Assumes nothing.
+--     numberOf r      the number, and all bits for "over the limit"
+--     Exported ..     the answer of `count_sets`, as that number
+use Prim.Native.Nat.{ℕ}
+use mathlib.Core.Path.{_≡_}
+use mathlib.Core.List.{List}
+use Rattle.orders.specs.declared.Reach.{Reach}
+use Rattle.orders.specs.declared.Reach.the-variants.{All, Over}
+use Rattle.orders.specs.Reachable.{Tallied}
+
+abbrev pub numberOf : Reach → ℕ
+numberOf (All c) = c
+numberOf Over = 18446744073709551615
+
+pub record Exported (k m : ℕ) (before bars scratch : List ℕ) (limit r : ℕ) (scratch′ : List ℕ) : Type 0 where
+  pub answer : Reach
+  pub is : Tallied k m before bars scratch limit answer scratch′
+  pub number : r ≡ numberOf answer

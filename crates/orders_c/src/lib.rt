@@ -1,0 +1,50 @@
+// The search under the C calling convention, for benchmarks. No function has a `requires`; tables are arrays, so that their lengths are fixed.
+ghost use Rattle.orders.specs.Answer.{Told, Answered};
+ghost use Rattle.orders_c.specs.Exported.{Exported};
+use orders::Reach;
+
+#[no_mangle]
+pub extern "C" fn plimdrong_first(
+    inits: usize,
+    events: usize,
+    before: &[u32; 32],
+    bars: &[u32; 1024],
+    scratch: &mut [u8],
+    order: &mut [u8],
+) -> bool
+    ensures { λ r. ⌜ Answered inits events (now (before .entry)) (now (bars .entry)) (now (scratch .entry)) (now (order .entry)) r (now (scratch .exit)) (now (order .exit)) ⌝ }
+{
+    orders::first(inits, events, before, bars, scratch, order)
+}
+
+#[no_mangle]
+pub extern "C" fn plimdrong_possible(
+    inits: usize,
+    events: usize,
+    before: &[u32; 32],
+    bars: &[u32; 1024],
+    scratch: &mut [u8],
+) -> bool
+    ensures { λ r. ⌜ Told inits events (now (before .entry)) (now (bars .entry)) (now (scratch .entry)) r (now (scratch .exit)) ⌝ }
+{
+    orders::possible(inits, events, before, bars, scratch)
+}
+
+// The number of the reachable sets; all bits where it is over the limit.
+#[no_mangle]
+pub extern "C" fn plimdrong_count_sets(
+    inits: usize,
+    events: usize,
+    before: &[u32; 32],
+    bars: &[u32; 1024],
+    scratch: &mut [u8],
+    limit: usize,
+) -> usize
+    ensures { λ r. ⌜ Exported inits events (now (before .entry)) (now (bars .entry)) (now (scratch .entry)) limit r (now (scratch .exit)) ⌝ }
+{
+    let answer = orders::count_sets(inits, events, before, bars, scratch, limit);
+    match answer {
+        Reach::All(n) => n,
+        Reach::Over => 18446744073709551615,
+    }
+}

@@ -1,0 +1,5 @@
+pub mod Kind
+pub mod Number
+pub mod NameOf
+pub mod Word
+pub mod Fit

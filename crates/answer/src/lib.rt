@@ -1,0 +1,158 @@
+// The answer of a judged sheet, and its 64-bit number for the suite's harness.
+ghost use mathlib.Core.Path.{_≡_};
+ghost use Rattle.answer.specs.Number.{settledNumber};
+ghost use Rattle.answer.specs.NameOf.{namesOf, pairOf};
+ghost use Rattle.answer.specs.Word.{byteOf, fourBytes, packed};
+ghost use Rattle.answer.specs.Word.{word as Word·word};
+
+// The names of a broken rule: a case for each rule's row of the table, with no number for "none".
+pub enum Names {
+    // 21, 23: reader, writer, address
+    Row(u8, u8, u8),
+    // 22: the event
+    Event(u8),
+    // 24: reader, writer, the write between, address
+    Between(u8, u8, u8, u8),
+    // 25: reader, writer, the write between
+    Torn(u8, u8, u8),
+    // 26
+    Nobody,
+}
+
+// Whether a consistent sheet has an unsettled pair, and the lowest.
+pub enum Settled {
+    Orderly,
+    Unsettled(u8, u8),
+}
+
+pub enum Answer {
+    // the refusal's number, and the place
+    Refused(u8, u32),
+    // the rule's number, and whom it names
+    Broken(u8, Names),
+    Consistent(Settled),
+}
+
+// One of the four places of an answer's names.
+pub enum Name {
+    Number(u8),
+    None,
+}
+
+// The four places, in the order of the line and of the word.
+pub struct Four {
+    pub first: Name,
+    pub second: Name,
+    pub third: Name,
+    pub fourth: Name,
+}
+
+// The names of a broken rule, each in its place.
+pub fn names_of(n: Names) -> Four
+    ensures { λ r. ⌜ r ≡ namesOf n ⌝ }
+{
+    match n {
+        Names::Row(r, w, a) => Four {
+            first: Name::Number(r),
+            second: Name::Number(w),
+            third: Name::None,
+            fourth: Name::Number(a),
+        },
+        Names::Event(e) => Four {
+            first: Name::Number(e),
+            second: Name::None,
+            third: Name::None,
+            fourth: Name::None,
+        },
+        Names::Between(r, w, v, a) => Four {
+            first: Name::Number(r),
+            second: Name::Number(w),
+            third: Name::Number(v),
+            fourth: Name::Number(a),
+        },
+        Names::Torn(r, w, v) => Four {
+            first: Name::Number(r),
+            second: Name::Number(w),
+            third: Name::Number(v),
+            fourth: Name::None,
+        },
+        Names::Nobody => Four {
+            first: Name::None,
+            second: Name::None,
+            third: Name::None,
+            fourth: Name::None,
+        },
+    }
+}
+
+// 0 orderly, 1 unsettled
+fn settled_number(s: Settled) -> u8
+    ensures { λ r. ⌜ r ≡ settledNumber s ⌝ }
+{
+    match s {
+        Settled::Orderly => 0,
+        Settled::Unsettled(_, _) => 1,
+    }
+}
+
+// The unsettled pair in the first two places.
+fn pair_of(s: Settled) -> Four
+    ensures { λ r. ⌜ r ≡ pairOf s ⌝ }
+{
+    match s {
+        Settled::Orderly => Four {
+            first: Name::None,
+            second: Name::None,
+            third: Name::None,
+            fourth: Name::None,
+        },
+        Settled::Unsettled(e, d) => Four {
+            first: Name::Number(e),
+            second: Name::Number(d),
+            third: Name::None,
+            fourth: Name::None,
+        },
+    }
+}
+
+// A name as a byte of the word.
+fn byte_of(n: Name) -> u8
+    ensures { λ r. ⌜ r ≡ byteOf n ⌝ }
+{
+    match n {
+        Name::Number(k) => k,
+        Name::None => 255,
+    }
+}
+
+// Four names as bytes, the first most significant.
+fn four_bytes(f: Four) -> u32
+    ensures { λ r. ⌜ r ≡ fourBytes f ⌝ }
+{
+    let first = f.first;
+    let second = f.second;
+    let third = f.third;
+    let fourth = f.fourth;
+    byte_of(first) as u32 * 16777216
+        + byte_of(second) as u32 * 65536
+        + byte_of(third) as u32 * 256
+        + byte_of(fourth) as u32
+}
+
+// kind * 2^40 + number * 2^32 + rest
+fn word(kind: u8, number: u8, rest: u32) -> u64
+    ensures { λ r. ⌜ r ≡ Word·word kind number rest ⌝ }
+{
+    kind as u64 * 1099511627776 + number as u64 * 4294967296 + rest as u64
+}
+
+// The number that the suite's harness gets.
+pub fn pack(x: Answer) -> u64
+    ensures { λ r. ⌜ r ≡ packed x ⌝ }
+{
+    match x {
+        Answer::Refused(number, place) => word(1, number, place),
+        Answer::Broken(number, names) => word(2, number, four_bytes(names_of(names))),
+        Answer::Consistent(s) => word(3, settled_number(s), four_bytes(pair_of(s))),
+    }
+}

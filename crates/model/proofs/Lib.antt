@@ -1,1 +1,4 @@
+pub mod ShapeLaws
+pub mod EventsLaws
+pub mod Sound
 pub mod Outcome

@@ -5,4 +5,7 @@ pub mod HappensLaws
 pub mod RulesLaws
 pub mod BarLaws
 pub mod UnsettledLaws
+pub mod OrderLaws
+pub mod MemoryLaws
+pub mod Serial
 pub mod Outcome

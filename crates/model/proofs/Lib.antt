@@ -8,4 +8,5 @@ pub mod UnsettledLaws
 pub mod OrderLaws
 pub mod MemoryLaws
 pub mod Serial
+pub mod JudgedLaws
 pub mod Outcome

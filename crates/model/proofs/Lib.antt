@@ -10,3 +10,5 @@ pub mod MemoryLaws
 pub mod Serial
 pub mod JudgedLaws
 pub mod Outcome
+pub mod Warshall
+pub mod ClosureLaws

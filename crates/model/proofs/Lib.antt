@@ -12,3 +12,4 @@ pub mod JudgedLaws
 pub mod Outcome
 pub mod Warshall
 pub mod ClosureLaws
+pub mod SearchLaws

@@ -13,3 +13,4 @@ pub mod Outcome
 pub mod Warshall
 pub mod ClosureLaws
 pub mod SearchLaws
+pub mod OutcomeLaws

@@ -2,6 +2,7 @@
 --     precedes-left, distinct-apart, distinct-loop     what stands before what, each number once
 --     precedes-more, precedes-over, in-front           lists put together
 --     inits-others                                     every event is an init or another
+--     meets-length                                     an order that meets the rules has as many entries as there are events
 --     begins                                           `Begins (problem x hb) (inits (x .events))`: what `ordered-first`, `ordered-none` ask for
 use mathlib.Core.Path.{_≡_, refl, sym, _∙_, subst}
 use mathlib.Core.Logic.{_⊎_, inl, inr}
@@ -20,7 +21,11 @@ use Rattle.format.specs.Event.{Event, isInit}
 use Rattle.format.specs.Execution.{Execution, event, inits, others}
 use Rattle.orders.specs.Order.{In, Precedes, Distinct}
 use Rattle.orders.specs.Inits.{Begins}
-use Rattle.orders.proofs.OrderLaws.{precedes-in}
+use Rattle.orders.specs.Order.{Meets}
+use Rattle.orders.specs.Step.{Below}
+use Rattle.orders.proofs.OrderLaws.{None, precedes-in, meets-runs}
+use Rattle.orders.proofs.StepLaws.{same-runs}
+use Rattle.orders.proofs.TrailLaws.{runs-length}
 use Rattle.model.specs.Events.{atRow}
 use Rattle.model.specs.Happens.{rowSyncs, Tests}
 use Rattle.model.specs.Bar.{barA, barB, barC, rowBars, bar}
@@ -107,3 +112,8 @@ module _ (x : Execution) (hb : ℕ → ℕ → Bool) (so : Sound x) (tests : Tes
     early = λ r w v h t. let k = bar-elim x hb r w v t in subst (λ (i : ℕ). T (hb i v)) (k .3)
         (init-writer (k .0) v (k .1) (subst (λ (i : ℕ). T (isInit (event x i))) (sym (k .3)) (so .init-low w h)) (row-bars x hb (k .0) v (k .4)));
   }
+
+  pub meets-length : (o : List ℕ) → Meets (problem x hb) o → length o ≡ length (x .events)
+  meets-length o m =
+      let r = same-runs (problem x hb) o None (Below 0) (λ d. ((λ z. absurd z), (λ h. omega (arith, h)))) (meets-runs (problem x hb) begins o m) in
+      omega (arith, runs-length (problem x hb) 0 (omega arith) o r)

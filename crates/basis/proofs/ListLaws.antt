@@ -2,12 +2,15 @@
 --     part-short, part-none         a part that is cut off by the list's end
 --     front-at, front-past, front-length     a mapped front of a list
 --     from-length, from-at          the numbers from a start on
-use mathlib.Core.Path.{_≡_, refl, sym, ap, _∙_}
-use mathlib.Core.List.{List, [], _∷_, map}
+--     last-at, snoc-split, each-snoc, two-snoc     a list with one entry more
+use mathlib.Core.Path.{_≡_, refl, sym, ap, _∙_, subst}
+use mathlib.Core.Logic.{_⊎_, inl, inr, ⊎-elim}
+use mathlib.Core.List.{List, [], _∷_, _++_, map}
 use Prim.Native.Nat.{ℕ, zero, suc, _+_, _-_, _≤_, _<_}
 use native.Mathlib.Omega.{arith}
-use lib.ListN.{length, getD, take, drop, length-drop, length-take, length-map, drop-of-length-le, List·getD-eq-default}
-use lib.Seq.{take-all, take-nil, getD-take}
+use lib.ListN.{length, getD, take, drop, length-drop, length-take, length-map, drop-of-length-le, length-append, List·getD-append, List·getD-eq-default}
+use lib.Seq.{take-all, take-nil, getD-take, getD-append-seam}
+use native.Mathlib.Nat.{eq-or-lt-of-le}
 use Rattle.basis.specs.Test.{from}
 
 pub part-short : (s : List ℕ) (a n : ℕ) → length s - a ≤ n → take (length s - a) (drop a s) ≡ take n (drop a s)
@@ -42,3 +45,31 @@ unfolding from
 from-at s zero i d h = absurd (omega arith)
 from-at s (suc n) zero d h = omega arith
 from-at s (suc n) (suc i) d h = let e = from-at (suc s) n i d (omega arith) in omega arith
+
+-- ---- a list with one entry more
+
+module _ {A : Type 0} (d : A) where
+  pub last-at : (l : List A) (a : A) (i : ℕ) → i ≡ length l → getD (l ++ (a ∷ [])) i d ≡ a
+  last-at l a i e = ap (λ (j : ℕ). getD (l ++ (a ∷ [])) j d) e ∙ getD-append-seam l a [] d
+
+  -- an index of the longer list is one of the shorter, or its length
+  pub snoc-split : (l : List A) (a : A) (i : ℕ) → i < length (l ++ (a ∷ [])) → (i ≡ length l) ⊎ (i < length l)
+  snoc-split l a i h = let e = length-append l (a ∷ []) in eq-or-lt-of-le (omega arith)
+
+  -- what holds of each entry
+  pub each-snoc : (P : A → Type 0) (l : List A) (a : A) → ((i : ℕ) → i < length l → P (getD l i d)) → P a
+      → (i : ℕ) → i < length (l ++ (a ∷ [])) → P (getD (l ++ (a ∷ [])) i d)
+  each-snoc P l a h k i j =
+      ⊎-elim (λ e. subst P (sym (last-at l a i e)) k) (λ b. subst P (sym (List·getD-append l (a ∷ []) d i b)) (h i b)) (snoc-split l a i j)
+
+  -- what holds of each two
+  pub two-snoc : (R : A → A → Type 0) (l : List A) (a : A) → ((i j : ℕ) → i < j → j < length l → R (getD l i d) (getD l j d))
+      → ((i : ℕ) → i < length l → R (getD l i d) a)
+      → (i j : ℕ) → i < j → j < length (l ++ (a ∷ [])) → R (getD (l ++ (a ∷ [])) i d) (getD (l ++ (a ∷ [])) j d)
+  two-snoc R l a h k i j b c =
+      ⊎-elim
+      (λ e. let f : i < length l = omega arith in
+      subst (λ (y : A). R (getD (l ++ (a ∷ [])) i d) y) (sym (last-at l a j e)) (subst (λ (x : A). R x a) (sym (List·getD-append l (a ∷ []) d i f)) (k i f)))
+      (λ e. let f : i < length l = omega arith in
+      subst (λ (y : A). R (getD (l ++ (a ∷ [])) i d) y) (sym (List·getD-append l (a ∷ []) d j e)) (subst (λ (x : A). R x (getD l j d)) (sym (List·getD-append l (a ∷ []) d i f)) (h i j b e)))
+      (snoc-split l a j c)

@@ -4,9 +4,11 @@
 --     find-none-left, find-found, find-more     the same of the first entry that passes
 --     number-snoc, all-number                   one entry more; all pass exactly when as many as there are
 --     and-holds, and-fails, or-holds, or-fails  a test that is known, on the left
+--     and-both, or-either, cond-cases           a test that passed, taken apart
 --     true-T, T-true, false-T, T-false          a test as an equation and as a fact
 use mathlib.Core.Path.{_≡_, refl, sym, ap, _∙_}
-use mathlib.Core.Bool.{Bool, true, false, cond}
+use mathlib.Core.Bool.{Bool, true, false, cond, false≢true}
+use mathlib.Core.Logic.{_⊎_, inl, inr}
 use mathlib.Core.List.{List, [], _∷_, _++_}
 use mathlib.Core.Option.{Option, none, some}
 use Prim.Native.Nat.{ℕ, zero, suc, _+_, _≤_, _<_}
@@ -55,6 +57,21 @@ or-holds a b h = ap (λ (x : Bool). x or b) h
 pub or-fails : (a b : Bool) → a ≡ false → (a or b) ≡ b
 unfolding _or_
 or-fails a b h = ap (λ (x : Bool). x or b) h
+
+-- a test that passed, taken apart
+pub and-both : (a b : Bool) → (a and b) ≡ true → (a ≡ true) × (b ≡ true)
+unfolding _and_
+and-both true b h = (refl, h)
+and-both false b h = absurd (false≢true h)
+
+pub or-either : (a b : Bool) → (a or b) ≡ true → (a ≡ true) ⊎ (b ≡ true)
+unfolding _or_
+or-either true b h = inl refl
+or-either false b h = inr h
+
+pub cond-cases : (b x y : Bool) → cond b x y ≡ true → ((b ≡ true) × (x ≡ true)) ⊎ ((b ≡ false) × (y ≡ true))
+cond-cases true x y h = inl (refl, h)
+cond-cases false x y h = inr (refl, h)
 
 pub non-non : (b : Bool) → non (non b) ≡ b
 unfolding non

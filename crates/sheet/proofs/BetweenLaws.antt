@@ -110,11 +110,11 @@ module _ (h : Head) (events : List Event) (v : List ℕ) (e : eventFault h event
       let d = no-fault-non (eqb (length v) (eventBytes (h .edition) + dataBytes (shapeOf v))) 3 _ b .1 in
       no-fault-non (roomFor events (agentOf v)) 8 _ d .0
 
-room-init : (events : List Event) (agent : ℕ) → roomFor events agent ≡ true → eqb agent 0 ≡ true → inits events < maxInits
+pub room-init : (events : List Event) (agent : ℕ) → roomFor events agent ≡ true → eqb agent 0 ≡ true → inits events < maxInits
 unfolding roomFor
 room-init events agent r e = ltb-true _ _ (rw e at r)
 
-room-other : (events : List Event) (agent : ℕ) → roomFor events agent ≡ true → eqb agent 0 ≡ false → others events < maxOthers
+pub room-other : (events : List Event) (agent : ℕ) → roomFor events agent ≡ true → eqb agent 0 ≡ false → others events < maxOthers
 unfolding roomFor
 room-other events agent r e = ltb-true _ _ (rw e at r)
 

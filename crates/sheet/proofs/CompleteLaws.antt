@@ -1,7 +1,7 @@
 -- The laws of what is tested after all fields: the lowest event with a read byte that has no row. Assumes nothing.
 --     lacks-at                      event i's one access
 --     lacking-start, lacking-found, lacking-more, lacking-none     the search over the events, which has come to i
---     Laid of what is through       laid-of
+--     laid-of, handed-refusal, handed-whole     what is handed over
 use Prim.Native.Nat.{ℕ, suc, _+_, _-_, _≤_, _<_}
 use mathlib.Core.Path.{_≡_, refl, sym, ap, _∙_}
 use mathlib.Core.List.{List}
@@ -21,9 +21,10 @@ use Rattle.format.specs.Execution.{Execution, eventNo}
 use Rattle.format.specs.Field.{valueAt}
 use Rattle.format.specs.Layout.{shapeOf}
 use Rattle.sheet.specs.declared.Sheet.{Sheet}
-use Rattle.sheet.specs.Parse.{refused, whole, isRow, lacks, lowestLacking, finish}
-use Rattle.sheet.specs.Handed.{eventsIn, rowsIn, execution, Laid}
-use Rattle.sheet.specs.Between.{view, Between, Through}
+use Rattle.sheet.specs.declared.Outcome.{Outcome}
+use Rattle.sheet.specs.Parse.{refused, whole, isRow, lacks, lowestLacking, finish, parse}
+use Rattle.sheet.specs.Handed.{eventsIn, rowsIn, execution, Laid, Handed, HandedWhole}
+use Rattle.sheet.specs.Between.{view, Between, Through, refusal}
 use Rattle.sheet.proofs.HandedLaws.{events-count, event-at}
 
 -- event number e has a read byte without a row
@@ -74,3 +75,12 @@ unfolding finish
 headless s last x at y e z =
     let f : refused 3 0 ≡ whole y = rw (eq-eqb last 0 z) at e in
     let q : _≡_ {A = ℕ} 0 1 = cc f in omega arith
+
+-- the reader's outcome, by the way that it came
+pub handed-refusal : (s : List ℕ) (n p : ℕ) (o : Outcome) → o ≡ refusal n p → parse s ≡ refused n p → Handed s o
+handed-refusal s n p o e h = rw e (record { says = h; no-sheet = refl; no-places = refl })
+
+pub handed-whole : (s : List ℕ) (last : ℕ) (x : Sheet) (at : List ℕ) → Through s last x at → whole (execution s x at) ≡ finish s (view s last x at)
+    → HandedWhole s x at
+handed-whole s last x at t e =
+    record { says = t .goes ∙ sym e; laid = laid-of s last x at t (headless s last x at (execution s x at) (sym e)) }

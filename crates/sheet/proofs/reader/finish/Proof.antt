@@ -1,34 +1,41 @@
+-- `sheet::reader::finish` meets its contract, test by test. Assumes nothing.
+use mathlib.Core.Path.{sym, ap, _∙_}
+use denote.Ref.{now}
+use native.Mathlib.Omega.{arith}
+use borrow.Author.Tests.{not-true, not-false}
+use Rattle.basis.specs.Test.{non}
+use Rattle.sheet.specs.Parse.{finish}
+use Rattle.sheet.proofs.BetweenLaws.{counted-of}
 use borrow.Author.Needs.{needs}
 use Rattle.sheet.proofs.reader.finish.Statement.{statement}
 use Rattle.sheet.proofs.reader.finish.Tie as tie
-use Rattle.sheet.proofs.reader.finish.Reads as reads
-use Rattle.sheet.proofs.reader.finish.Lts as lts
-use Rattle.sheet.proofs.reader.complete.Reads as complete-reads
-use Rattle.sheet.proofs.reader.some_read.Reads as some-read-reads
 
 -- src/reader.rt:284:9
 returns : tie.Need-returns
-returns c = ?
+unfolding finish
+returns c = simp (c .if1 .taken)
 
 -- src/reader.rt:286:9
 some-read-requires : tie.Need-some-read-requires
-some-read-requires c κs = search needs
+some-read-requires c κs = counted-of _ _ _ _ _ (c .before .before .before .pre .between) .room
 
 -- src/reader.rt:288:37
 cast-t9 : tie.Need-cast-t9
-cast-t9 c = search needs
+cast-t9 c = let k = c .before .before .before .before .before .pre .short in omega arith
 
 -- src/reader.rt:288:9
 returns-2 : tie.Need-returns-2
-returns-2 c = ?
+unfolding finish non
+returns-2 c = simp (c .before .before .if1 .left, simp (c .before .some-read .ensures) at (c .if2 .taken))
 
 -- src/reader.rt:290:5
 complete-requires : tie.Need-complete-requires
-complete-requires c κs = search needs
+complete-requires c κs = counted-of _ _ _ _ _ (c .before .before .before .before .before .pre .between) .room
 
 -- src/reader.rt:278:1
 returns-3 : tie.Need-returns-3
-returns-3 c = ?
+unfolding finish non
+returns-3 c = c .complete .ensures ∙ simp (c .before .before .before .if1 .left, simp (c .before .before .some-read .ensures) at (c .before .if2 .left))
 
 pub finish-spec : {M : Type 1} → statement M
 finish-spec =

@@ -1,11 +1,12 @@
+-- `sheet::reader::read` meets its contract: a sheet too long, a field at fault, a test after all fields, or a whole sheet. Assumes nothing.
+use mathlib.Core.Path.{_≡_, refl, sym, ap, _∙_}
+use denote.Ref.{now}
+use native.Mathlib.Omega.{arith}
+use Rattle.sheet.proofs.ParseLaws.{too-long}
+use Rattle.sheet.proofs.CompleteLaws.{handed-refusal, handed-whole}
 use borrow.Author.Needs.{needs}
 use Rattle.sheet.proofs.reader.read.Statement.{statement}
 use Rattle.sheet.proofs.reader.read.Tie as tie
-use Rattle.sheet.proofs.reader.read.Reads as reads
-use Rattle.sheet.proofs.reader.read.Lts as lts
-use Rattle.sheet.proofs.reader.fields.Reads as fields-reads
-use Rattle.sheet.proofs.reader.finish.Reads as finish-reads
-use Rattle.sheet.proofs.reader.refuse.Reads as refuse-reads
 
 -- src/reader.rt:309:9
 refuse-requires : tie.Need-refuse-requires
@@ -13,7 +14,7 @@ refuse-requires c κs = search needs
 
 -- src/reader.rt:309:9
 returns : tie.Need-returns
-returns c = ?
+returns c = handed-refusal (now (c .before .before .before .args .s)) 1 0 (c .refuse .result) (c .refuse .ensures) (too-long (now (c .before .before .before .args .s)) (c .before .if1 .taken))
 
 -- src/reader.rt:312:26
 slice-aggregate-fields : tie.Need-slice-aggregate-fields
@@ -21,7 +22,7 @@ slice-aggregate-fields c = search needs
 
 -- src/reader.rt:312:9
 fields-requires : tie.Need-fields-requires
-fields-requires c κs = search needs
+fields-requires c κs = (c .before .if1 .left, refl)
 
 -- src/reader.rt:314:23
 enum-known-scan : tie.Need-enum-known-scan
@@ -41,7 +42,7 @@ slice-aggregate-finish c = search needs
 
 -- src/reader.rt:316:17
 finish-requires : tie.Need-finish-requires
-finish-requires c κs = ?
+finish-requires c κs = rw (c .before .before .scan2 .given .1) at (c .before .before .before .before .before .fields .ensures)
 
 -- src/reader.rt:318:34
 enum-known-reading : tie.Need-enum-known-reading
@@ -57,15 +58,15 @@ enum-told c = search needs
 
 -- src/reader.rt:305:1
 returns-2 : tie.Need-returns-2
-returns-2 c = ?
+returns-2 c = handed-refusal (now (c .before .before .before .before .before .before .before .before .before .args .s)) _ _ (c .refuse2 .result) (c .refuse2 .ensures) (rw (c .before .before .scan .given .1) at (c .before .before .before .before .before .fields .ensures))
 
 -- src/reader.rt:305:1
 returns-3 : tie.Need-returns-3
-returns-3 c = ?
+returns-3 c = handed-refusal (now (c .before .before .before .before .before .before .before .before .before .before .before .before .before .before .args .s)) _ _ (c .refuse3 .result) (c .refuse3 .ensures) ((rw (c .before .before .before .before .before .before .before .scan2 .given .1) at (c .before .before .before .before .before .before .before .before .before .before .fields .ensures)) .goes ∙ sym (rw (c .before .before .reading .given .1) at (c .before .before .before .before .finish .ensures)))
 
 -- src/reader.rt:305:1
 returns-4 : tie.Need-returns-4
-returns-4 c = ?
+returns-4 c = handed-whole (now (c .before .before .before .before .before .before .before .before .before .before .before .before .args .s)) _ _ _ (rw (c .before .before .before .before .before .scan2 .given .1) at (c .before .before .before .before .before .before .before .before .fields .ensures)) (rw (c .enum-told .given .1) at (c .before .before .finish .ensures))
 
 pub read-spec : {M : Type 1} → statement M
 read-spec =

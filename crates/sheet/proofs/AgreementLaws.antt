@@ -1,0 +1,95 @@
+-- Two outcomes that the reader's contract allows for the same bytes are equal, struct and places too. Assumes nothing.
+--     handed-unique : Handed s o → Handed s o′ → o ≡ o′
+use mathlib.Core.Path.{_≡_, refl, sym, ap, _∙_, subst}
+use mathlib.Core.Bool.{Bool, true, false}
+use mathlib.Core.List.{List}
+use Prim.Native.Nat.{ℕ, suc, _+_, _-_, _<_, _≤_}
+use native.Mathlib.Omega.{arith}
+use borrow.Author.Tests.{ltb-true, ltb-false}
+use lib.Dec.{ltb}
+use lib.ListN.{length, getD, drop, replicate, getD-replicate}
+use lib.Seq.{ext-getD, getD-drop}
+use Rattle.format.specs.declared.Head.{Head}
+use Rattle.format.specs.Limits.{slots}
+use Rattle.format.specs.Event.{Event}
+use Rattle.format.specs.Execution.{Execution, inits}
+use Rattle.format.specs.Field.{fieldPlace}
+use Rattle.sheet.specs.declared.Sheet.{Sheet}
+use Rattle.sheet.specs.declared.Reading.{Reading}
+use Rattle.sheet.specs.declared.Reading.the-variants.{Refused, Whole}
+use Rattle.sheet.specs.declared.Outcome.{Outcome}
+use Rattle.sheet.specs.Parse.{refused, whole, parse}
+use Rattle.sheet.specs.Handed.{eventsIn, rowsIn, pairsIn, execution, Laid, HandedRefusal, HandedWhole, Told, Handed, blankSheet, blankPlaces}
+use Rattle.sheet.proofs.HandedLaws.{events-count, rows-count, pairs-count}
+
+-- the same fields, the same struct
+sheet-path : {h h′ : Head} {i i′ e e′ ra ra′ r r′ pa pa′ p p′ : ℕ} → h ≡ h′ → i ≡ i′ → e ≡ e′ → ra ≡ ra′ → r ≡ r′ → pa ≡ pa′ → p ≡ p′
+    → _≡_ {A = Sheet}
+    (record { head = h; inits = i; events = e; «rows_at» = ra; rows = r; «pairs_at» = pa; pairs = p })
+    (record { head = h′; inits = i′; events = e′; «rows_at» = ra′; rows = r′; «pairs_at» = pa′; pairs = p′ })
+sheet-path a b c d e f g = λ i. record { head = a i; inits = b i; events = c i; «rows_at» = d i; rows = e i; «pairs_at» = f i; pairs = g i }
+
+outcome-path : {r r′ : Reading} {x x′ : Sheet} {at at′ : List ℕ} → r ≡ r′ → x ≡ x′ → at ≡ at′
+    → _≡_ {A = Outcome} (record { reading = r; sheet = x; at = at }) (record { reading = r′; sheet = x′; at = at′ })
+outcome-path a b c = λ i. record { reading = a i; sheet = b i; at = c i }
+
+module _ (s : List ℕ) (x y : Sheet) (at bt : List ℕ) (l : Laid s x at) (m : Laid s y bt) (e : execution s x at ≡ execution s y bt) where
+  events-same : x .events ≡ y .events
+  events-same =
+      let f = l .few in let g = m .few in let c = l .size in let d = m .size in
+      sym (events-count s (x .head .edition) (x .events) at (omega arith))
+      ∙ ap {B = ℕ} (λ (z : Execution). length (z .events)) e ∙ events-count s (y .head .edition) (y .events) bt (omega arith)
+
+  rows-same : x .rows ≡ y .rows
+  rows-same =
+      sym (rows-count s (x .head .edition) (x .«rows_at») (x .rows)) ∙ ap {B = ℕ} (λ (z : Execution). length (z .rows)) e
+      ∙ rows-count s (y .head .edition) (y .«rows_at») (y .rows)
+
+  pairs-same : x .pairs ≡ y .pairs
+  pairs-same = sym (pairs-count s (x .«pairs_at») (x .pairs)) ∙ ap {B = ℕ} (λ (z : Execution). length (z .pairs)) e ∙ pairs-count s (y .«pairs_at») (y .pairs)
+
+  sheets-same : x ≡ y
+  sheets-same =
+      let n = events-same in
+      let r = rows-same in
+      sheet-path (ap {B = Head} (λ (z : Execution). z .head) e) (l .inits ∙ ap {B = ℕ} (λ (z : Execution). inits (z .events)) e ∙ sym (m .inits)) n
+      (l .rows-at ∙ ap (λ (k : ℕ). fieldPlace s (suc k)) n ∙ sym (m .rows-at)) r
+      (l .pairs-at ∙ (let q : x .events + x .rows ≡ y .events + y .rows = omega arith in ap (λ (k : ℕ). fieldPlace s (suc k)) q) ∙ sym (m .pairs-at)) pairs-same
+
+  -- a place that no event uses
+  unused-at : (z : Sheet) (ct : List ℕ) → Laid s z ct → (i : ℕ) → z .events ≤ i → i < slots → getD ct i 0 ≡ 0
+  unused-at z ct k i b c =
+      let q : z .events + (i - z .events) ≡ i = omega arith in
+      ap (λ (j : ℕ). getD ct j 0) (sym q) ∙ sym (getD-drop (z .events) ct (i - z .events) 0) ∙ ap (λ (j : List ℕ). getD j (i - z .events) 0) (k .unused)
+      ∙ getD-replicate (slots - z .events) (i - z .events) 0 0 (omega arith)
+
+  places-same : at ≡ bt
+  places-same = ext-getD 0 at bt (l .size ∙ sym (m .size)) each
+    where
+      each : (i : ℕ) → i < length at → getD at i 0 ≡ getD bt i 0
+      each i b = go (ltb i (x .events)) refl
+        where
+          go : (c : Bool) → ltb i (x .events) ≡ c → getD at i 0 ≡ getD bt i 0
+          go true p = let q = ltb-true i (x .events) p in let n = events-same in l .places i q ∙ sym (m .places i (omega arith))
+          go false p =
+              let q = ltb-false i (x .events) p in let n = events-same in let z = l .size in
+              unused-at x at l i q (omega arith) ∙ sym (unused-at y bt m i (omega arith) (omega arith))
+
+told-unique : (s : List ℕ) (r q : Reading) (x y : Sheet) (at bt : List ℕ) → Told s r x at → Told s q y bt
+    → _≡_ {A = Outcome} (record { reading = r; sheet = x; at = at }) (record { reading = q; sheet = y; at = bt })
+told-unique s (Refused n p) (Refused m o) x y at bt a b =
+    let e : refused n p ≡ refused m o = sym (a .says) ∙ b .says in
+    let f : n ≡ m = cc in
+    let g : p ≡ o = cc in
+    outcome-path (λ i. Refused (f i) (g i)) (a .no-sheet ∙ sym (b .no-sheet)) (a .no-places ∙ sym (b .no-places))
+told-unique s (Refused n p) Whole x y at bt a b =
+    let e : refused n p ≡ whole (execution s y bt) = sym (a .says) ∙ b .says in absurd (let z : _≡_ {A = ℕ} 0 1 = cc e in omega arith)
+told-unique s Whole (Refused n p) x y at bt a b =
+    let e : whole (execution s x at) ≡ refused n p = sym (a .says) ∙ b .says in absurd (let z : _≡_ {A = ℕ} 0 1 = cc e in omega arith)
+told-unique s Whole Whole x y at bt a b =
+    let e : whole (execution s x at) ≡ whole (execution s y bt) = sym (a .says) ∙ b .says in
+    let f : execution s x at ≡ execution s y bt = cc e in
+    outcome-path refl (sheets-same s x y at bt (a .laid) (b .laid) f) (places-same s x y at bt (a .laid) (b .laid) f)
+
+pub handed-unique : (s : List ℕ) (o q : Outcome) → Handed s o → Handed s q → o ≡ q
+handed-unique s o q a b = told-unique s (o .reading) (q .reading) (o .sheet) (q .sheet) (o .at) (q .at) a b

@@ -1,0 +1,34 @@
+//! compare --seed S --count N [--max-events K]: random sheets, the linked judge against the second program.
+
+#[path = "../tests/compare/mod.rs"]
+mod compare;
+
+fn main() {
+    let args: Vec<String> = std::env::args().skip(1).collect();
+    let (mut seed, mut count, mut max) = (1, 1_000_000, 0);
+    for two in args.chunks(2) {
+        match (two[0].as_str(), two.get(1).and_then(|n| n.parse::<u64>().ok())) {
+            ("--seed", Some(n)) => seed = n,
+            ("--count", Some(n)) => count = n,
+            ("--max-events", Some(n)) => max = n as usize,
+            _ => {
+                eprintln!("usage: compare --seed S --count N [--max-events K]");
+                std::process::exit(2);
+            }
+        }
+    }
+    let began = std::time::Instant::now();
+    match compare::random_sheets(seed, count, max) {
+        Ok(tally) => {
+            println!("seed {seed}: {count} sheets agree, {:.1} s\n{tally}", began.elapsed().as_secs_f64());
+            let missing = tally.missing();
+            if !missing.is_empty() {
+                println!("never came: {}", missing.join(", "));
+            }
+        }
+        Err(wrong) => {
+            println!("{wrong}");
+            std::process::exit(1);
+        }
+    }
+}

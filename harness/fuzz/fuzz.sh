@@ -1,0 +1,22 @@
+#!/bin/sh
+# fuzz.sh [SECONDS]: libFuzzer over plimdrong_judge beside the second program (Debian: clang, libclang-rt-14-dev). What
+# is new is kept in target/fuzz/corpus; a difference or a crash leaves its input in target/fuzz/. Not part of the gate.
+#
+# The archive of the judge carries no counters of its own. The fuzzer is led by those of the second program, which is
+# compiled for it: it takes a branch for every clause of document 01, so inputs that reach a new clause are kept.
+set -eu
+seconds=${1:-60}
+cd "$(dirname "$0")"
+root=$(cd ../.. && pwd)
+../native.sh
+RUSTFLAGS="-Cpasses=sancov-module -Cllvm-args=-sanitizer-coverage-level=4 -Cllvm-args=-sanitizer-coverage-inline-8bit-counters -Cllvm-args=-sanitizer-coverage-pc-table -Cllvm-args=-sanitizer-coverage-trace-compares -Ccodegen-units=1" \
+    cargo build -q -j1 --release --offline --target "$(rustc -vV | sed -n 's/^host: //p')" --target-dir "$root/target/cargo/fuzz"
+out=$root/target/fuzz
+mkdir -p "$out/corpus" "$out/seeds"
+cp "$root"/examples/litmus/*.sheet "$out/seeds/"
+(cd .. && cargo run -q -j1 --release --offline -p second --bin sheets -- files "$out/seeds" 1 1000)
+lib=$(ls "$root"/target/cargo/fuzz/*/release/libfuzz_second.a)
+clang -g -O1 -fsanitize=fuzzer,address -I "$root/include" target.c "$root/target/native/libjudge_c.a" "$lib" \
+    -o "$out/target" -lpthread -ldl -lm
+cd "$out"
+./target -max_total_time="$seconds" -max_len=1500 -timeout=20 -print_final_stats=1 -use_value_profile=1 corpus seeds

@@ -1,0 +1,20 @@
+//! The second program: a judge of sheets written from document 01 (and the readings noted beside it) and from nothing
+//! else, by the plainest method. Speed is no aim; each loop stands beside the sentence it follows.
+//!
+//! - [`sheet`]: the format and refusals 1 to 11.
+//! - [`judge`]: refusals 12 and 13, relations, rules 21 to 26, the first order, the unsettled pair.
+//! - [`answer`]: the report line, the 64-bit word, and what both buffers hold afterwards.
+//! - [`text`]: a sheet as text for people, and back.
+//! - [`random`]: random small sheets, whole and damaged, by a seed.
+
+#![allow(clippy::needless_range_loop)] // plain loops over event numbers are meant
+
+pub mod answer;
+pub mod judge;
+pub mod random;
+pub mod sheet;
+pub mod text;
+
+pub use answer::{judge_into, needed_scratch, Answer};
+pub use judge::judge;
+pub use sheet::{read, Event, Execution, Kind, Mode, Row};

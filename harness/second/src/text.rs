@@ -1,0 +1,220 @@
+//! A sheet as text for people, and back. A line a field:
+//!
+//! ```text
+//! head 1 2 2                     edition, agents, memory size
+//! 0 init at 0: 00 00
+//! 1 A1 write unordered at 0: 01
+//! 2 A1 write sc at 1: 01
+//! 3 A2 read sc at 1: 01
+//! 4 A2 rmw sc at 0: 00 -> 01     seen, then written
+//! 5 A2 marker
+//! row 3 1 2                      reader, address, writer
+//! pair 5 6
+//! bytes 05 00 00                 anything else, as it stands in the sheet
+//! ```
+//!
+//! An event's number may be left out. `#` begins a comment. Every sheet has such a text, damaged ones too, and
+//! [`from_text`] gives back the very bytes.
+
+/// The bytes as two hexadecimal digits each, single spaces between; `-` for none.
+pub fn hex(bytes: &[u8]) -> String {
+    if bytes.is_empty() {
+        return "-".to_string();
+    }
+    let digits: Vec<String> = bytes.iter().map(|b| format!("{b:02x}")).collect();
+    digits.join(" ")
+}
+
+/// The bytes that such a line stands for.
+pub fn from_hex(line: &str) -> Result<Vec<u8>, String> {
+    let line = line.trim();
+    if line == "-" {
+        return Ok(vec![]);
+    }
+    let byte = |d: &str| match d.len() {
+        2 => u8::from_str_radix(d, 16).map_err(|_| format!("'{d}' is no byte")),
+        _ => Err(format!("'{d}' is not two digits")),
+    };
+    line.split_whitespace().map(byte).collect()
+}
+
+/// The text of any bytes taken as a sheet.
+pub fn to_text(sheet: &[u8]) -> String {
+    let mut out = String::new();
+    let mut at = 0;
+    let mut events = 0;
+    while at < sheet.len() {
+        let rest = &sheet[at..];
+        let end = match rest {
+            [_, high, low, ..] => 3 + *high as usize * 256 + *low as usize,
+            _ => usize::MAX,
+        };
+        // a field cut short: the rest as bytes
+        if end > rest.len() {
+            out += &format!("bytes {}\n", hex(rest));
+            break;
+        }
+        let value = &rest[3..end];
+        let line = match rest[0] {
+            1 if value.len() == 3 => Some(format!("head {} {} {}", value[0], value[1], value[2])),
+            2 => event_line(value).map(|line| format!("{events} {line}")),
+            3 if value.len() == 3 => Some(format!("row {} {} {}", value[0], value[1], value[2])),
+            4 if value.len() == 2 => Some(format!("pair {} {}", value[0], value[1])),
+            _ => None,
+        };
+        events += usize::from(rest[0] == 2);
+        out += &line.unwrap_or_else(|| format!("bytes {}", hex(&rest[..end])));
+        out.push('\n');
+        at += end;
+    }
+    out
+}
+
+const KINDS: [&str; 5] = ["", "read", "write", "rmw", "marker"];
+const MODES: [&str; 3] = ["init", "unordered", "sc"];
+
+/// An event whose text says all of it, else nothing.
+fn event_line(value: &[u8]) -> Option<String> {
+    let [agent, kind, mode, start, width, data @ ..] = value else {
+        return None;
+    };
+    let width = *width as usize;
+    match (agent, kind, mode) {
+        (0, 2, 0) if width > 0 && data.len() == width => Some(format!("init at {start}: {}", hex(data))),
+        (_, 1 | 2, 0..=2) if width > 0 && data.len() == width => {
+            Some(format!("A{agent} {} {} at {start}: {}", KINDS[*kind as usize], MODES[*mode as usize], hex(data)))
+        }
+        (_, 3, 0..=2) if width > 0 && data.len() == 2 * width => {
+            let (seen, written) = (hex(&data[..width]), hex(&data[width..]));
+            Some(format!("A{agent} rmw {} at {start}: {seen} -> {written}", MODES[*mode as usize]))
+        }
+        (_, 4, 2) if *start == 0 && value.len() == 5 && width == 0 => Some(format!("A{agent} marker")),
+        _ => None,
+    }
+}
+
+/// The bytes of a text.
+pub fn from_text(text: &str) -> Result<Vec<u8>, String> {
+    let mut sheet = vec![];
+    let mut events = 0;
+    for (i, whole) in text.lines().enumerate() {
+        let line = whole.split('#').next().unwrap().trim();
+        if line.is_empty() {
+            continue;
+        }
+        field(line, &mut events, &mut sheet).map_err(|why| format!("line {}: {why}: {whole}", i + 1))?;
+    }
+    Ok(sheet)
+}
+
+fn put(sheet: &mut Vec<u8>, tag: u8, value: &[u8]) {
+    sheet.push(tag);
+    sheet.extend((value.len() as u16).to_be_bytes());
+    sheet.extend(value);
+}
+
+fn number(word: &str) -> Result<u8, String> {
+    word.parse().map_err(|_| format!("'{word}' is no number of a byte"))
+}
+
+fn numbers(words: &str) -> Result<Vec<u8>, String> {
+    words.split_whitespace().map(number).collect()
+}
+
+fn field(line: &str, events: &mut usize, sheet: &mut Vec<u8>) -> Result<(), String> {
+    let (word, rest) = line.split_once(' ').unwrap_or((line, ""));
+    match word {
+        "head" => put(sheet, 1, &numbers(rest)?),
+        "row" => put(sheet, 3, &numbers(rest)?),
+        "pair" => put(sheet, 4, &numbers(rest)?),
+        "bytes" => {
+            let bytes = from_hex(rest)?;
+            *events += usize::from(bytes.first() == Some(&2));
+            sheet.extend(bytes);
+        }
+        _ => {
+            // an event, with or without its number
+            let line = match word.parse::<usize>() {
+                Ok(number) if number != *events => return Err(format!("this is event {events}")),
+                Ok(_) => rest,
+                Err(_) => line,
+            };
+            put(sheet, 2, &event(line)?);
+            *events += 1;
+        }
+    }
+    Ok(())
+}
+
+fn event(line: &str) -> Result<Vec<u8>, String> {
+    let (what, data) = line.split_once(':').unwrap_or((line, ""));
+    let words: Vec<&str> = what.split_whitespace().collect();
+    let agent = |word: &str| number(word.strip_prefix('A').ok_or("an agent is A and a number")?);
+    let at = |names: &[&str], word: &str| names.iter().position(|n| *n == word).map(|i| i as u8);
+    let (agent, kind, mode, start) = match words[..] {
+        ["init", "at", start] => (0, 2, 0, number(start)?),
+        [a, "marker"] => (agent(a)?, 4, 2, 0),
+        [a, kind, mode, "at", start] => {
+            let kind = at(&KINDS, kind).ok_or("no such kind")?;
+            (agent(a)?, kind, at(&MODES, mode).ok_or("no such mode")?, number(start)?)
+        }
+        _ => return Err("no such line".to_string()),
+    };
+    let mut bytes = vec![];
+    let mut width = 0;
+    if kind != 4 {
+        for part in data.split("->") {
+            let part = from_hex(part)?;
+            width = part.len();
+            bytes.extend(part);
+        }
+        if bytes.len() != width * if kind == 3 { 2 } else { 1 } {
+            return Err("data of the wrong length".to_string());
+        }
+    }
+    let mut value = vec![agent, kind, mode, start, width as u8];
+    value.extend(bytes);
+    Ok(value)
+}
+
+/// An entry of the litmus source.
+#[derive(Clone, Debug)]
+pub struct Entry {
+    pub name: String,
+    /// What document 01 says, a line each.
+    pub words: String,
+    pub line: String,
+    pub sheet: Vec<u8>,
+}
+
+/// The entries of a litmus source: `entry NAME`, lines `| words`, `line LINE`, the sheet's text.
+pub fn litmus(source: &str) -> Result<Vec<Entry>, String> {
+    let mut parts: Vec<(String, String)> = vec![];
+    for line in source.lines() {
+        match (line.strip_prefix("entry "), parts.last_mut()) {
+            (Some(name), _) => parts.push((name.to_string(), String::new())),
+            (None, Some((_, body))) => *body += &format!("{line}\n"),
+            (None, None) => {}
+        }
+    }
+    let mut entries: Vec<Entry> = vec![];
+    for (name, body) in parts {
+        let mut e = Entry { name, words: String::new(), line: String::new(), sheet: vec![] };
+        let mut fields = String::new();
+        for line in body.lines() {
+            if let Some(words) = line.strip_prefix("| ") {
+                e.words += &format!("{words}\n");
+            } else if let Some(expected) = line.strip_prefix("line ") {
+                e.line = expected.to_string();
+            } else {
+                fields += &format!("{line}\n");
+            }
+        }
+        e.sheet = from_text(&fields).map_err(|why| format!("entry {}: {why}", e.name))?;
+        if e.line.is_empty() || entries.iter().any(|other| other.name == e.name) {
+            return Err(format!("entry {}: no line, or a second of this name", e.name));
+        }
+        entries.push(e);
+    }
+    Ok(entries)
+}

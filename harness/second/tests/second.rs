@@ -1,0 +1,237 @@
+//! The second program and the random sheets, held against each other.
+
+use second::judge::{next_order, Relations};
+use second::random::{case, damaged, whole, Rng, WAYS};
+use second::sheet::{MAX_EVENTS, MAX_SCRATCH};
+use second::text::{from_text, to_text};
+use second::{judge, judge_into, needed_scratch, read, Answer};
+use std::collections::BTreeMap;
+
+const EXAMPLE: [u8; 30] = [1, 0, 3, 1, 1, 1, 2, 0, 6, 0, 2, 0, 0, 1, 0, 2, 0, 6, 1, 1, 1, 0, 1, 0, 3, 0, 3, 1, 0, 0];
+
+#[test]
+fn the_example() {
+    let answer = judge(&EXAMPLE, 1, 2);
+    assert_eq!(answer.line(), "consistent orderly then 0 1");
+    assert_eq!(answer.word(), 0x300_ffff_ffff);
+    assert_eq!(judge(&EXAMPLE, 0, 2).line(), "refused 12 at 0");
+    assert_eq!(judge(&EXAMPLE, 0, 0).line(), "refused 12 at 0");
+    assert_eq!(judge(&EXAMPLE, 1, 1).line(), "refused 13 at 0");
+    assert_eq!(judge(&EXAMPLE, 1, 1).word(), 0x10d_0000_0000);
+    assert_eq!(judge(&EXAMPLE[..24], 1, 2).word(), 0x10b_0000_000f);
+    let mut wrong = EXAMPLE;
+    wrong[23] = 7;
+    assert_eq!(judge(&wrong, 1, 2).line(), "broken 21 1 0 - 0");
+    assert_eq!(judge(&wrong, 1, 2).word(), 0x215_0100_ff00);
+}
+
+#[test]
+fn both_buffers() {
+    let mut wrong = EXAMPLE;
+    wrong[23] = 7;
+    for (sheet, scratch_after, order_after) in [
+        (&EXAMPLE[..24], [9, 9, 9], [9, 9, 9]),
+        (&wrong[..], [0, 9, 9], [9, 9, 9]),
+        (&EXAMPLE[..], [0, 9, 9], [0, 1, 9]),
+    ] {
+        let (mut scratch, mut order) = ([9; 3], [9; 3]);
+        judge_into(sheet, &mut scratch, &mut order);
+        assert_eq!((scratch, order), (scratch_after, order_after));
+    }
+}
+
+#[test]
+fn scratch_needed() {
+    let mut rng = Rng::new(3);
+    for _ in 0..2000 {
+        let x = read(&second::random::bytes(&whole(&mut rng, 16).1)).unwrap();
+        let needed = [1, 1, 1, 1, 2, 4, 8, 16, 32, 64, 128, 256, 512, 1024, 2048, 4096, 8192][x.others()];
+        assert_eq!(needed_scratch(&x), needed);
+    }
+}
+
+#[test]
+fn orders_in_turn() {
+    let mut order = vec![0, 1, 2];
+    let mut all = vec![order.clone()];
+    while next_order(&mut order) {
+        all.push(order.clone());
+    }
+    assert_eq!(all, [[0, 1, 2], [0, 2, 1], [1, 0, 2], [1, 2, 0], [2, 0, 1], [2, 1, 0]]);
+}
+
+/// Each way of damage earns its number, at the place that the damage was done.
+#[test]
+fn every_way_earns_its_number() {
+    let mut rng = Rng::new(11);
+    for way in WAYS {
+        for i in 0..200 {
+            let (sheet, place) =
+                damaged(&mut rng, way, [4, 6, 16][i % 3]).unwrap_or_else(|| panic!("{}: never made", way.name));
+            let found = read(&sheet).err();
+            assert_eq!(found, Some((way.number, place)), "{}\n{}", way.name, to_text(&sheet));
+        }
+    }
+    for number in 1..=11 {
+        assert!(WAYS.iter().any(|w| w.number == number), "no way to earn {number}");
+    }
+}
+
+#[test]
+fn whole_sheets_are_whole() {
+    let mut rng = Rng::new(5);
+    for _ in 0..20_000 {
+        let (name, fields) = whole(&mut rng, 8);
+        let sheet = second::random::bytes(&fields);
+        assert!(read(&sheet).is_ok(), "{name} {:?}\n{}", read(&sheet), to_text(&sheet));
+    }
+}
+
+/// The two methods of finding the first order agree, and what they find meets the rules.
+#[test]
+fn prefixes_against_all_orders() {
+    let (mut none, mut some, mut other_than_first) = (0, 0, 0);
+    for index in 0..30_000 {
+        let c = case(2, index, 6);
+        let Ok(x) = read(&c.sheet) else { continue };
+        let m = Relations::of(&x);
+        if x.events.len() > 7 || m.first_broken_rule().is_some() {
+            continue;
+        }
+        let by_all = m.first_of_all_orders();
+        assert_eq!(by_all, m.first_by_prefixes(), "{}\n{}", c.name, to_text(&c.sheet));
+        match by_all {
+            None => none += 1,
+            Some(order) => {
+                some += 1;
+                other_than_first += usize::from(order.windows(2).any(|w| w[0] > w[1]));
+            }
+        }
+    }
+    assert!(none > 300 && some > 3000 && other_than_first > 300, "{none} {some} {other_than_first}");
+}
+
+/// An order that was reported meets the rules, and every one that is before it does not (for few events).
+#[test]
+fn reported_orders_meet_the_rules() {
+    for index in 0..20_000 {
+        let c = case(4, index, 16);
+        if let Answer::Consistent { order, .. } = judge(&c.sheet, MAX_SCRATCH, MAX_EVENTS) {
+            let x = read(&c.sheet).unwrap();
+            let order: Vec<usize> = order.iter().map(|&e| e as usize).collect();
+            assert!(Relations::of(&x).meets(&order));
+        }
+    }
+}
+
+#[test]
+fn text_and_back() {
+    for index in 0..20_000 {
+        let c = case(6, index, 8);
+        let text = to_text(&c.sheet);
+        assert_eq!(from_text(&text).as_deref(), Ok(&c.sheet[..]), "{}\n{text}", c.name);
+    }
+}
+
+#[test]
+fn same_seed_same_sheets() {
+    for index in 0..100 {
+        assert_eq!(case(9, index, 6).sheet, case(9, index, 6).sheet);
+    }
+    let differ = (0..100).filter(|&i| case(9, i, 6).sheet != case(10, i, 6).sheet).count();
+    assert!(differ > 90);
+}
+
+/// Random sheets earn every number and every rule, with and without an unsettled pair.
+#[test]
+fn every_answer_comes_up() {
+    let mut hit: BTreeMap<String, usize> = BTreeMap::new();
+    for index in 0..50_000 {
+        let c = case(1, index, 6);
+        let what = match judge(&c.sheet, c.scratch, c.order) {
+            Answer::Refused { number, .. } => format!("refused {number:2}"),
+            Answer::Broken { number, .. } => format!("broken {number}"),
+            Answer::Consistent { pair: None, .. } => "consistent orderly".to_string(),
+            Answer::Consistent { pair: Some(_), .. } => "consistent unsettled".to_string(),
+        };
+        *hit.entry(what).or_default() += 1;
+    }
+    for (what, times) in &hit {
+        println!("{what}: {times}");
+    }
+    assert_eq!(hit.len(), 13 + 6 + 2);
+    assert!(hit.values().all(|&times| times >= 100), "{hit:?}");
+}
+
+/// The reader's table, written by hand.
+#[test]
+fn the_readers_table() {
+    let table = include_str!("../../../tests/reader/sheets.tsv");
+    let mut sheets = 0;
+    for line in table.lines().filter(|l| !l.starts_with('#')) {
+        let [name, hex, expected] = line.split('\t').collect::<Vec<_>>()[..] else { panic!("{line}") };
+        let found = match read(&second::text::from_hex(hex).unwrap()) {
+            Err((number, place)) => format!("refused {number} at {place}"),
+            Ok(x) => {
+                let numbers = [x.inits(), x.events.len(), x.rows.len(), x.pairs.len()];
+                format!("read {} {} {}", x.agents, x.size, numbers.map(|n| n.to_string()).join(" "))
+            }
+        };
+        assert_eq!(found, expected, "{name}");
+        sheets += 1;
+    }
+    assert!(sheets >= 60);
+}
+
+/// Every litmus entry, its line written by hand from document 01; the files are as their source makes them.
+#[test]
+fn the_litmus_table() {
+    let dir = concat!(env!("CARGO_MANIFEST_DIR"), "/../../examples/litmus");
+    let entries = second::text::litmus(&std::fs::read_to_string(format!("{dir}/litmus.src")).unwrap()).unwrap();
+    assert!(entries.len() >= 56);
+    for e in &entries {
+        assert_eq!(judge(&e.sheet, MAX_SCRATCH, MAX_EVENTS).line(), e.line, "{}", e.name);
+        let file = |end: &str| std::fs::read(format!("{dir}/{}.{end}", e.name)).unwrap();
+        assert_eq!(file("sheet"), e.sheet, "{}: run harness/litmus.sh", e.name);
+        assert_eq!(file("line"), format!("{}\n", e.line).into_bytes(), "{}: run harness/litmus.sh", e.name);
+    }
+    let first = std::fs::read(format!("{dir}/../first.sheet")).unwrap();
+    assert_eq!(first, EXAMPLE);
+    // 16: with 8,191 bytes of scratch
+    let sixteen = entries.iter().find(|e| e.name == "16a-sixteen-others").unwrap();
+    assert_eq!(judge(&sixteen.sheet, 8191, 20).line(), "refused 12 at 0");
+}
+
+/// Random sheets where one of (a), (b), (c) alone changes the answer: without them that reason would be untried.
+#[test]
+fn each_reason_decides_somewhere() {
+    let mut decides = [0; 3];
+    for index in 0..20_000 {
+        let c = case(8, index, 7);
+        let Ok(x) = read(&c.sheet) else { continue };
+        let m = Relations::of(&x);
+        if x.events.len() > 7 || m.first_broken_rule().is_some() {
+            continue;
+        }
+        let first = m.first_of_all_orders();
+        for (left_out, count) in decides.iter_mut().enumerate() {
+            let bar = |r, w, v| m.reasons(r, w, v).iter().enumerate().any(|(i, &reason)| reason && i != left_out);
+            let mut order: Vec<usize> = (0..x.events.len()).collect();
+            let found = loop {
+                let place = |e| order.iter().position(|&o| o == e).unwrap();
+                let n = order.len();
+                let kept = (0..n).all(|a| (0..n).all(|b| !m.before[a][b] || place(a) < place(b)));
+                let barred = |r, w| (0..n).any(|v| place(w) < place(v) && place(v) < place(r) && bar(r, w, v));
+                if kept && !x.rows.iter().any(|row| barred(row.reader, row.writer)) {
+                    break Some(order.iter().map(|&e| e as u8).collect::<Vec<u8>>());
+                }
+                if !next_order(&mut order) {
+                    break None;
+                }
+            };
+            *count += usize::from(found != first);
+        }
+    }
+    println!("(a), (b), (c) decide {decides:?} times");
+    assert!(decides.iter().all(|&d| d >= 50), "{decides:?}");
+}

@@ -1,0 +1,172 @@
+//! The answer and its 64-bit word.
+
+use crate::MAX_EVENTS;
+use std::fmt;
+
+/// What the judge says of a sheet. Its `Display` is the report line.
+#[derive(Clone, Debug, PartialEq, Eq)]
+pub enum Answer {
+    /// The sheet is not well-formed, or a buffer is too short. [`refusal`](crate::refusal) tells what the number means.
+    Refused {
+        /// 1 to 13.
+        number: u8,
+        /// The sheet's byte, counted from 0, that the refusal points to.
+        place: u32,
+    },
+    /// The execution breaks a rule of the memory model.
+    Broken {
+        /// The first rule that is broken, with the events that break it.
+        rule: Rule,
+    },
+    /// The execution is one that the memory model allows.
+    Consistent {
+        /// Of all orders that meet the rules the first, compared event number by event number.
+        order: Order,
+        /// The lowest unsettled pair; orderly if there is none.
+        pair: Option<(u8, u8)>,
+    },
+}
+
+/// A broken rule and the events (by number) and address that it names.
+#[derive(Clone, Copy, Debug, PartialEq, Eq)]
+pub enum Rule {
+    /// 21: the byte seen differs from the byte its writer wrote.
+    ByteDiffers { reader: u8, writer: u8, address: u8 },
+    /// 22: an event happens before itself.
+    BeforeItself { event: u8 },
+    /// 23: in a row, the reader happens before the writer.
+    ReadsLater { reader: u8, writer: u8, address: u8 },
+    /// 24: in a row, another write of that byte happens between writer and reader.
+    Overwritten { reader: u8, writer: u8, between: u8, address: u8 },
+    /// 25: a tear-free read has bytes from two tear-free writes of the same range.
+    Torn { reader: u8, writer: u8, other: u8 },
+    /// 26: no total order meets the rules.
+    NoOrder,
+}
+
+impl Rule {
+    /// The rule's number, 21 to 26.
+    pub fn number(&self) -> u8 {
+        match self {
+            Rule::ByteDiffers { .. } => 21,
+            Rule::BeforeItself { .. } => 22,
+            Rule::ReadsLater { .. } => 23,
+            Rule::Overwritten { .. } => 24,
+            Rule::Torn { .. } => 25,
+            Rule::NoOrder => 26,
+        }
+    }
+
+    /// The four names of the report line: reader (or event), writer, the event between, address.
+    pub fn names(&self) -> [Option<u8>; 4] {
+        match *self {
+            Rule::ByteDiffers { reader, writer, address } => [Some(reader), Some(writer), None, Some(address)],
+            Rule::BeforeItself { event } => [Some(event), None, None, None],
+            Rule::ReadsLater { reader, writer, address } => [Some(reader), Some(writer), None, Some(address)],
+            Rule::Overwritten { reader, writer, between, address } => {
+                [Some(reader), Some(writer), Some(between), Some(address)]
+            }
+            Rule::Torn { reader, writer, other } => [Some(reader), Some(writer), Some(other), None],
+            Rule::NoOrder => [None; 4],
+        }
+    }
+
+    fn from_names(number: u8, names: [u8; 4]) -> Option<Rule> {
+        let names = names.map(|n| (n != 255).then_some(n));
+        match (number, names) {
+            (21, [Some(reader), Some(writer), None, Some(address)]) => {
+                Some(Rule::ByteDiffers { reader, writer, address })
+            }
+            (22, [Some(event), None, None, None]) => Some(Rule::BeforeItself { event }),
+            (23, [Some(reader), Some(writer), None, Some(address)]) => {
+                Some(Rule::ReadsLater { reader, writer, address })
+            }
+            (24, [Some(reader), Some(writer), Some(between), Some(address)]) => {
+                Some(Rule::Overwritten { reader, writer, between, address })
+            }
+            (25, [Some(reader), Some(writer), Some(other), None]) => Some(Rule::Torn { reader, writer, other }),
+            (26, [None, None, None, None]) => Some(Rule::NoOrder),
+            _ => None,
+        }
+    }
+}
+
+/// A total order of a sheet's events, by their numbers.
+#[derive(Clone, Copy, PartialEq, Eq)]
+pub struct Order {
+    events: [u8; MAX_EVENTS],
+    length: u8,
+}
+
+impl Order {
+    /// The order at the front of a buffer that held 255 in every byte: it ends at the first 255.
+    fn ended_by_255(buffer: &[u8]) -> Option<Order> {
+        let length = buffer.iter().position(|&e| e == 255).unwrap_or(buffer.len());
+        let mut events = [255; MAX_EVENTS];
+        events.get_mut(..length)?.copy_from_slice(&buffer[..length]);
+        Some(Order { events, length: length as u8 })
+    }
+}
+
+impl std::ops::Deref for Order {
+    type Target = [u8];
+    fn deref(&self) -> &[u8] {
+        &self.events[..self.length as usize]
+    }
+}
+
+impl fmt::Debug for Order {
+    fn fmt(&self, f: &mut fmt::Formatter) -> fmt::Result {
+        fmt::Debug::fmt(&**self, f)
+    }
+}
+
+impl Answer {
+    /// The answer of a word and the order buffer after it, every byte of which was 255 before the call. Nothing for a
+    /// word that the judge does not give.
+    pub fn from_word(word: u64, order: &[u8]) -> Option<Answer> {
+        let number = (word >> 32) as u8;
+        let low = word as u32;
+        let names = low.to_be_bytes();
+        match (word >> 40, number) {
+            (1, 1..=13) => Some(Answer::Refused { number, place: low }),
+            (2, _) => Rule::from_names(number, names).map(|rule| Answer::Broken { rule }),
+            (3, 0) if names == [255; 4] => Some(Answer::Consistent { order: Order::ended_by_255(order)?, pair: None }),
+            (3, 1) if names[2..] == [255; 2] => {
+                Some(Answer::Consistent { order: Order::ended_by_255(order)?, pair: Some((names[0], names[1])) })
+            }
+            _ => None,
+        }
+    }
+
+    /// Whether the memory model allows the execution.
+    pub fn is_consistent(&self) -> bool {
+        matches!(self, Answer::Consistent { .. })
+    }
+}
+
+/// The report line, without its newline.
+impl fmt::Display for Answer {
+    fn fmt(&self, f: &mut fmt::Formatter) -> fmt::Result {
+        match self {
+            Answer::Refused { number, place } => write!(f, "refused {number} at {place}"),
+            Answer::Broken { rule } => {
+                write!(f, "broken {}", rule.number())?;
+                for name in rule.names() {
+                    match name {
+                        Some(name) => write!(f, " {name}")?,
+                        None => write!(f, " -")?,
+                    }
+                }
+                Ok(())
+            }
+            Answer::Consistent { order, pair } => {
+                match pair {
+                    None => write!(f, "consistent orderly then")?,
+                    Some((e, d)) => write!(f, "consistent unsettled {e} {d} then")?,
+                }
+                order.iter().try_for_each(|event| write!(f, " {event}"))
+            }
+        }
+    }
+}

@@ -1,0 +1,129 @@
+//! Answers in sentences.
+
+use crate::{Answer, Rule};
+use std::fmt;
+
+/// What a refusal's number means, and what to do about it.
+#[derive(Clone, Copy, Debug, PartialEq, Eq)]
+pub struct Refusal {
+    pub meaning: &'static str,
+    pub remedy: &'static str,
+}
+
+/// The meaning of a refusal's number; nothing for a number that the judge does not give.
+pub fn refusal(number: u8) -> Option<Refusal> {
+    let (meaning, remedy) = match number {
+        1 => ("The sheet is over 4,096 bytes.", "Record a shorter execution, or cut what follows the last field."),
+        2 => (
+            "A field is cut short: its tag and length, or the value that the length promises, run past the sheet's end.",
+            "Check the field's two length bytes (most significant first) and that the whole sheet was written.",
+        ),
+        3 => (
+            "A tag is not allowed here: unknown, lower than the one before, a second head, or no head in front.",
+            "Begin with one head (tag 1), then all events (2), all rows (3), all pairs (4).",
+        ),
+        4 => (
+            "A field's length does not fit it.",
+            "A head and a row have 3 bytes, a pair 2; an event 5 and its data: the width for a read or a write, twice \
+             the width for a read-modify-write, none for a marker.",
+        ),
+        5 => (
+            "The head's content is wrong.",
+            "The edition is 1, agents are 1 to 8, the memory has 1 to 64 bytes.",
+        ),
+        6 => (
+            "An event's content is wrong.",
+            "Check agent, kind, mode, start and width: inits (agent 0, write, mode 0) come first and are disjoint; \
+             others have an agent up to the head's count, width 1, 2, 4 or 8, in mode 2 a start divisible by the width; \
+             a read-modify-write has mode 2; a marker has mode 2, start 0, width 0; all end within the memory.",
+        ),
+        7 => (
+            "A row's content is wrong.",
+            "The reader reads and covers the address, the writer is another event that writes and covers it, and rows \
+             rise strictly by reader and address.",
+        ),
+        8 => (
+            "A pair's content is wrong.",
+            "Both are markers, of different agents, and pairs rise strictly.",
+        ),
+        9 => (
+            "There are too many: a fifth init, a 17th other event or a 33rd pair.",
+            "Record a shorter execution; several inits side by side can be one.",
+        ),
+        10 => ("No event reads, so there is nothing to judge.", "Check that the reads were recorded."),
+        11 => (
+            "A byte that was read has no row.",
+            "Give each byte of each read and read-modify-write exactly one row; the place is the event's tag.",
+        ),
+        12 => (
+            "The scratch is too short.",
+            "Lend the larger of 1 and 2^n / 8 bytes for n events that are not inits; 8,192 are enough for every sheet.",
+        ),
+        13 => (
+            "The order buffer is shorter than the number of events.",
+            "Lend a byte for each event; 20 are enough for every sheet.",
+        ),
+        _ => return None,
+    };
+    Some(Refusal { meaning, remedy })
+}
+
+impl Answer {
+    /// The answer in sentences, for people.
+    pub fn explain(&self) -> String {
+        match self {
+            Answer::Refused { number, place } => {
+                let Refusal { meaning, remedy } = refusal(*number).expect("a number that the judge gives");
+                match number {
+                    1 | 12 | 13 => format!("{meaning} {remedy}"),
+                    10 => format!("{meaning} {remedy} The sheet has {place} bytes."),
+                    _ => format!("{meaning} {remedy} See byte {place} of the sheet."),
+                }
+            }
+            Answer::Broken { rule } => format!("The memory model forbids this execution: {rule}."),
+            Answer::Consistent { order, pair } => {
+                let order: Vec<String> = order.iter().map(|e| e.to_string()).collect();
+                let order = order.join(", ");
+                match pair {
+                    None => format!(
+                        "The memory model allows this execution, and it is orderly: no two events are an unsettled \
+                         pair. The first order that meets the rules is {order}."
+                    ),
+                    Some((e, d)) => format!(
+                        "The memory model allows this execution, but events {e} and {d} are an unsettled pair: they \
+                         overlap, one or both write, neither happens before the other, and they are not both \
+                         sequentially consistent with equal ranges. The first order that meets the rules is {order}."
+                    ),
+                }
+            }
+        }
+    }
+}
+
+/// The rule in words, with its events.
+impl fmt::Display for Rule {
+    fn fmt(&self, f: &mut fmt::Formatter) -> fmt::Result {
+        match self {
+            Rule::ByteDiffers { reader, writer, address } => write!(
+                f,
+                "event {reader} saw at byte {address} another value than event {writer}, its writer there, wrote (rule 21)"
+            ),
+            Rule::BeforeItself { event } => write!(f, "event {event} happens before itself (rule 22)"),
+            Rule::ReadsLater { reader, writer, address } => write!(
+                f,
+                "event {reader} read byte {address} from event {writer}, but happens before it (rule 23)"
+            ),
+            Rule::Overwritten { reader, writer, between, address } => write!(
+                f,
+                "event {reader} read byte {address} from event {writer}, but event {between} writes that byte too, \
+                 happens after event {writer} and before event {reader} (rule 24)"
+            ),
+            Rule::Torn { reader, writer, other } => write!(
+                f,
+                "event {reader} has bytes from both event {writer} and event {other}, though all three are tear-free \
+                 with the same range (rule 25)"
+            ),
+            Rule::NoOrder => write!(f, "no total order of its events meets the rules (rule 26)"),
+        }
+    }
+}

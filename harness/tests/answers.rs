@@ -1,0 +1,110 @@
+//! Every answer read from its word, its line and its sentences; and the litmus files.
+
+use plimdrong::{judge, refusal, Answer, Judge, Rule};
+use std::path::PathBuf;
+
+fn from(word: u64) -> Option<Answer> {
+    Answer::from_word(word, &[0, 1, 255])
+}
+
+#[test]
+fn every_refusal() {
+    for number in 1..=13u8 {
+        let word = (1 << 40) + ((number as u64) << 32) + 77;
+        let answer = from(word).unwrap();
+        assert_eq!(answer, Answer::Refused { number, place: 77 });
+        assert_eq!(answer.to_string(), format!("refused {number} at 77"));
+        let words = refusal(number).unwrap();
+        assert!(answer.explain().starts_with(words.meaning));
+        assert!(answer.explain().contains(words.remedy));
+    }
+    for number in [0, 14, 255] {
+        assert_eq!(refusal(number), None);
+        assert_eq!(from((1 << 40) + ((number as u64) << 32)), None);
+    }
+}
+
+#[test]
+fn every_rule() {
+    for (number, names, line, rule) in [
+        (21, 0x0100_ff00, "broken 21 1 0 - 0", Rule::ByteDiffers { reader: 1, writer: 0, address: 0 }),
+        (22, 0x01ff_ffff, "broken 22 1 - - -", Rule::BeforeItself { event: 1 }),
+        (23, 0x0102_ff00, "broken 23 1 2 - 0", Rule::ReadsLater { reader: 1, writer: 2, address: 0 }),
+        (24, 0x0400_0107, "broken 24 4 0 1 7", Rule::Overwritten { reader: 4, writer: 0, between: 1, address: 7 }),
+        (25, 0x0301_02ff, "broken 25 3 1 2 -", Rule::Torn { reader: 3, writer: 1, other: 2 }),
+        (26, 0xffff_ffff, "broken 26 - - - -", Rule::NoOrder),
+    ] {
+        let word = (2 << 40) + (number << 32) + names;
+        let answer = from(word).unwrap();
+        assert_eq!(answer, Answer::Broken { rule });
+        assert_eq!(answer.to_string(), line);
+        assert_eq!(rule.number() as u64, number);
+        // the sentence names the rule and each event
+        let sentence = answer.explain();
+        assert!(sentence.contains(&format!("(rule {number})")), "{sentence}");
+        for name in rule.names().into_iter().flatten() {
+            assert!(sentence.contains(&name.to_string()), "{sentence}");
+        }
+        assert!(!answer.is_consistent());
+    }
+    // names that a rule does not have, and rules that are not there
+    for word in [0x215_ffff_ffff, 0x216_0102_ffff, 0x219_0301_0200, 0x21a_00ff_ffff, 0x21b_ffff_ffff, 0x200_ffff_ffff] {
+        assert_eq!(from(word), None, "{word:#x}");
+    }
+}
+
+#[test]
+fn consistent() {
+    let orderly = from(0x300_ffff_ffff).unwrap();
+    assert_eq!(orderly.to_string(), "consistent orderly then 0 1");
+    assert!(orderly.is_consistent() && orderly.explain().contains("orderly"));
+    let unsettled = from(0x301_0104_ffff).unwrap();
+    assert_eq!(unsettled.to_string(), "consistent unsettled 1 4 then 0 1");
+    assert!(unsettled.explain().contains("events 1 and 4 are an unsettled pair"));
+    let Answer::Consistent { order, pair } = unsettled else { panic!() };
+    assert_eq!((&order[..], pair), (&[0, 1][..], Some((1, 4))));
+    // the longest order fills the buffer; a longer one is none
+    let full: Vec<u8> = (0..20).collect();
+    assert!(Answer::from_word(0x300_ffff_ffff, &full).unwrap().to_string().ends_with(" 18 19"));
+    assert_eq!(Answer::from_word(0x300_ffff_ffff, &[0; 21]), None);
+    for word in [0, 0x300_0102_ffff, 0x301_0102_ff00, 0x302_ffff_ffff, 0x400_0000_0000, 1 << 48 | 0x300_ffff_ffff] {
+        assert_eq!(from(word), None, "{word:#x}");
+    }
+}
+
+fn litmus() -> Vec<PathBuf> {
+    let dir = concat!(env!("CARGO_MANIFEST_DIR"), "/../examples/litmus");
+    let files = std::fs::read_dir(dir).unwrap().map(|f| f.unwrap().path());
+    let mut sheets: Vec<PathBuf> = files.filter(|f| f.extension().is_some_and(|e| e == "sheet")).collect();
+    sheets.sort();
+    sheets
+}
+
+#[test]
+fn litmus_files() {
+    let sheets = litmus();
+    assert!(sheets.len() >= 56);
+    let mut kept = Judge::new();
+    for file in sheets {
+        let sheet = std::fs::read(&file).unwrap();
+        let line = std::fs::read_to_string(file.with_extension("line")).unwrap();
+        let answer = judge(&sheet);
+        assert_eq!(format!("{answer}\n"), line, "{}", file.display());
+        assert!(!answer.explain().is_empty());
+        assert_eq!(kept.judge(&sheet), answer, "{}", file.display());
+    }
+}
+
+/// The reader's table: refused as it says, or not refused.
+#[test]
+fn readers_table() {
+    let mut judge = Judge::new();
+    for line in include_str!("../../tests/reader/sheets.tsv").lines().filter(|l| !l.starts_with('#')) {
+        let [name, hex, expected] = line.split('\t').collect::<Vec<_>>()[..] else { panic!("{line}") };
+        let sheet = second::text::from_hex(hex).unwrap();
+        match judge.judge(&sheet) {
+            refused @ Answer::Refused { .. } => assert_eq!(refused.to_string(), expected, "{name}"),
+            _ => assert!(expected.starts_with("read "), "{name}"),
+        }
+    }
+}

@@ -1,0 +1,164 @@
+//! The lent buffers: what they hold after each kind of answer, every length from 0 up, and bytes of any kind.
+
+use plimdrong::{judge_with, Answer, Judge, MAX_EVENTS, MAX_SCRATCH};
+use second::random::{case, Rng};
+
+fn sheet(name: &str) -> Vec<u8> {
+    std::fs::read(format!("{}/../examples/litmus/{name}.sheet", env!("CARGO_MANIFEST_DIR"))).unwrap()
+}
+
+/// The line, the scratch and the order buffer, both lent full of 9 with `scratch` and `order` bytes.
+fn run(sheet: &[u8], scratch: usize, order: usize) -> (u64, Vec<u8>, Vec<u8>) {
+    let (mut s, mut o) = (vec![9; scratch], vec![9; order]);
+    let word = judge_with(sheet, &mut s, &mut o);
+    (word, s, o)
+}
+
+fn number(word: u64) -> (u64, u64) {
+    (word >> 40, word >> 32 & 255)
+}
+
+#[test]
+fn after_a_refusal_both_are_unchanged() {
+    for name in ["02-row-removed", "16b-seventeenth-event", "16c-head-alone", "16e-agents-9"] {
+        let (word, s, o) = run(&sheet(name), 8192, 20);
+        assert_eq!(number(word).0, 1);
+        assert_eq!((s, o), (vec![9; 8192], vec![9; 20]), "{name}");
+    }
+    // 12 and 13
+    let fifteen = sheet("15-markers"); // six events that are not inits: 8 bytes
+    for (scratch, order, refusal) in [(7, 20, 12), (0, 0, 12), (8, 6, 13), (8, 0, 13)] {
+        let (word, s, o) = run(&fifteen, scratch, order);
+        assert_eq!(word, (1 << 40) + (refusal << 32));
+        assert_eq!((s, o), (vec![9; scratch], vec![9; order]));
+    }
+}
+
+#[test]
+fn after_a_broken_rule_the_needed_scratch_is_zero() {
+    for (name, rule, needed) in [
+        ("03-another-byte", 21, 1),
+        ("10-load-buffering", 22, 2),
+        ("11-from-the-future", 23, 1),
+        ("04-message-passing-stale", 24, 2),
+        ("12-torn", 25, 1),
+        ("07-store-buffering", 26, 2),
+        ("22-two-readers-disagree", 26, 8),
+    ] {
+        let (word, s, o) = run(&sheet(name), 40, 20);
+        assert_eq!(number(word), (2, rule), "{name}");
+        assert_eq!(s[..needed], vec![0; needed], "{name}");
+        assert_eq!(s[needed..], vec![9; 40 - needed], "{name}");
+        assert_eq!(o, vec![9; 20], "{name}");
+    }
+}
+
+#[test]
+fn after_a_consistent_one_the_order_stands_in_front() {
+    for (name, needed, order) in [
+        ("01-example", 1, &[0, 1][..]),
+        ("09-store-buffering-one-sees", 2, &[0, 3, 4, 1, 2]),
+        ("15-markers", 8, &[0, 3, 1, 2, 4, 5, 6]),
+        ("08-store-buffering-unordered", 2, &[0, 1, 2, 3, 4]),
+    ] {
+        let (word, s, o) = run(&sheet(name), 40, 20);
+        assert_eq!(number(word).0, 3, "{name}");
+        assert_eq!(s[..needed], vec![0; needed], "{name}");
+        assert_eq!(s[needed..], vec![9; 40 - needed], "{name}");
+        assert_eq!(&o[..order.len()], order, "{name}");
+        assert_eq!(o[order.len()..], vec![9; 20 - order.len()], "{name}");
+    }
+}
+
+/// Litmus 16: 8,192 bytes of scratch for 16 events, and no byte less.
+#[test]
+fn sixteen_events() {
+    let sixteen = sheet("16a-sixteen-others");
+    assert_eq!(number(run(&sixteen, 8192, 17).0).0, 3);
+    assert_eq!(number(run(&sixteen, 8191, 17).0), (1, 12));
+    assert_eq!(number(run(&sixteen, 8192, 16).0), (1, 13));
+}
+
+/// Every length of the two buffers from 0 up: 12 below what the scratch needs, then 13 below the number of events.
+#[test]
+fn lengths_from_0_up() {
+    for (name, needed, events) in [
+        ("01-example", 1, 2),
+        ("09-store-buffering-one-sees", 2, 5),
+        ("15-markers", 8, 7),
+        ("07-store-buffering", 2, 5),
+    ] {
+        let bytes = sheet(name);
+        let whole = run(&bytes, needed, events).0;
+        for scratch in 0..needed + 4 {
+            for order in 0..events + 4 {
+                let (word, s, o) = run(&bytes, scratch, order);
+                if scratch < needed {
+                    assert_eq!(word, (1 << 40) + (12 << 32));
+                } else if order < events {
+                    assert_eq!(word, (1 << 40) + (13 << 32));
+                } else {
+                    assert_eq!(word, whole);
+                    assert!(s[..needed].iter().all(|&b| b == 0) && s[needed..].iter().all(|&b| b == 9));
+                    assert!(o[events..].iter().all(|&b| b == 9));
+                    continue;
+                }
+                assert_eq!((s, o), (vec![9; scratch], vec![9; order]));
+            }
+        }
+    }
+    // the same for sheets of every size
+    for index in 0..2000 {
+        let c = case(31, index, 16);
+        let Ok(x) = second::read(&c.sheet) else { continue };
+        let (needed, events) = (second::needed_scratch(&x), x.events.len());
+        assert_eq!(number(run(&c.sheet, needed - 1, events).0), (1, 12));
+        assert_eq!(number(run(&c.sheet, needed, events - 1).0), (1, 13));
+        assert!(number(run(&c.sheet, needed, events).0).0 > 1);
+    }
+}
+
+/// What the scratch holds on entry does not matter.
+#[test]
+fn the_scratchs_content_does_not_matter() {
+    let mut rng = Rng::new(5);
+    let mut scratch = vec![0; MAX_SCRATCH];
+    for index in 0..3000 {
+        let c = case(32, index, 9);
+        let mut order = [255; MAX_EVENTS];
+        let clean = judge_with(&c.sheet, &mut vec![0; MAX_SCRATCH], &mut order);
+        scratch.iter_mut().for_each(|b| *b = rng.byte());
+        let mut order2 = [255; MAX_EVENTS];
+        let dirty = judge_with(&c.sheet, &mut scratch, &mut order2);
+        assert_eq!((clean, order), (dirty, order2), "{}", c.name);
+    }
+}
+
+/// Bytes of any kind get an answer: lengths 0 to 5,000, noise, and noise that looks like fields.
+#[test]
+fn arbitrary_bytes() {
+    let mut rng = Rng::new(7);
+    let mut judge = Judge::new();
+    for length in 0..5000 {
+        let noise: Vec<u8> = (0..length).map(|_| rng.byte()).collect();
+        let zeros = vec![0; length];
+        let fields: Vec<u8> = (0..length).map(|i| [2, 0, 6, 1, 2, 1, 0, 1, 0][i % 9]).collect();
+        for bytes in [noise, zeros, fields] {
+            let answer = judge.judge(&bytes);
+            assert!(matches!(answer, Answer::Refused { .. }), "{answer}");
+        }
+    }
+    // every single byte of a whole sheet changed to every value; every front part of it
+    for name in ["15-markers", "14-two-read-modify-writes"] {
+        let whole = sheet(name);
+        for i in 0..whole.len() {
+            judge.judge(&whole[..i]);
+            let mut changed = whole.clone();
+            for value in 0..=255 {
+                changed[i] = value;
+                let answer = judge.judge(&changed);
+                assert_eq!(answer.to_string(), second::judge(&changed, MAX_SCRATCH, MAX_EVENTS).line());
+            }
+        }
+    }
+}

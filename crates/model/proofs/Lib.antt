@@ -1,0 +1,16 @@
+pub mod ShapeLaws
+pub mod EventsLaws
+pub mod Sound
+pub mod HappensLaws
+pub mod RulesLaws
+pub mod BarLaws
+pub mod UnsettledLaws
+pub mod OrderLaws
+pub mod MemoryLaws
+pub mod Serial
+pub mod JudgedLaws
+pub mod Outcome
+pub mod Warshall
+pub mod ClosureLaws
+pub mod SearchLaws
+pub mod OutcomeLaws

@@ -12,7 +12,7 @@ use mathlib.Core.Bool.{Bool, true, false}
 use mathlib.Core.List.{List, [], _∷_}
 use mathlib.Core.Option.{Option, none, some}
 use Prim.Native.Nat.{ℕ, _+_, _*_, _<_, _≤_}
-use lib.ListN.{length, getD}
+use lib.ListN.{length, getD, set}
 use Rattle.format.specs.declared.Shape.{Shape}
 use Rattle.format.specs.Limits.{slots}
 use Rattle.format.specs.Event.{Event}
@@ -43,6 +43,11 @@ shapeIn t e =
       width = getD t (128 + e) 0;
       tear = getD t (160 + e) 0;
     }
+
+-- the table with event e's entry written
+abbrev pub putting : List ℕ → ℕ → ℕ → Shape → List ℕ
+putting t e agent a =
+    set (set (set (set (set (set t e agent) (32 + e) (a .kind)) (64 + e) (a .mode)) (96 + e) (a .start)) (128 + e) (a .width)) (160 + e) (a .tear)
 
 -- event e is one access with the table's shape, by the table's agent
 pub record Entry (x : Execution) (t : List ℕ) (e : ℕ) : Type 0 where

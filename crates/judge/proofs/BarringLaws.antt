@@ -1,23 +1,40 @@
 -- The laws of specs/Barring.antt: bars added row by row are the model's bars. Assumes nothing.
 --     marked-none, marked-more      the events below k of one row
+--     gathered-none, gathered-more, gathered-all     row by row; all of them are the model's bars
 use mathlib.Core.Path.{_≡_, refl, sym, ap, _∙_, subst}
 use mathlib.Core.Logic.{_⊎_, inl, inr, ⊎-elim}
 use mathlib.Core.Bool.{Bool, true, false, cond}
-use mathlib.Core.List.{List}
+use mathlib.Core.List.{List, [], _∷_, _++_, List·Memᴰ, List·Memᴰ·head, List·Memᴰ·tail}
 use Prim.Native.Nat.{ℕ, zero, suc, _+_, _*_, _<_, _≤_}
 use native.Mathlib.Omega.{arith}
 use native.Mathlib.Numerals.{add-one}
 use borrow.Author.Tests.{ltb-true, ltb-false, eqb-true, eqb-false, eq-eqb, ne-eqb, lt-ltb, le-ltb}
 use lib.Dec.{eqb, ltb}
-use lib.ListN.{length, getD, set, length-set}
-use lib.Seq.{getD-set-same, getD-set-other}
-use Rattle.basis.specs.Test.{_and_, _or_}
-use Rattle.basis.proofs.LoopLaws.{or-none, and-holds, and-fails}
+use lib.ListN.{length, getD, set, take, replicate, length-set, length-replicate, getD-replicate}
+use lib.Seq.{getD-set-same, getD-set-other, take-suc, take-all}
+use Rattle.basis.specs.Test.{_and_, _or_, non, any}
+use Rattle.basis.proofs.LoopLaws.{or-none, and-holds, and-fails, and-both}
 use Rattle.format.specs.declared.Row.{Row}
 use Rattle.format.specs.Limits.{slots}
 use Rattle.sets.specs.Mask.{mem, insert}
-use Rattle.sets.proofs.MaskLaws.{mem-insert}
-use Rattle.judge.specs.Barring.{gained, Marked}
+use Rattle.sets.proofs.MaskLaws.{mem-insert, mem-empty}
+use Rattle.format.specs.declared.Shape.{Shape}
+use Rattle.format.specs.Shape.{writes, sc, covers, equal, bothSc}
+use Rattle.format.specs.Event.{Event, shapeAt, writesAt}
+use Rattle.format.specs.Execution.{Execution, event, noRow}
+use Rattle.format.proofs.EventLaws.{writesAt-nobody}
+use Rattle.sheet.specs.declared.Sheet.{Sheet}
+use Rattle.sheet.specs.Handed.{rowsIn, rowNo, execution}
+use Rattle.sheet.proofs.HandedLaws.{events-count, rows-count, row-at}
+use Rattle.model.specs.Events.{atRow}
+use Rattle.model.specs.Happens.{rowSyncs}
+use Rattle.model.specs.Bar.{barA, barB, barC, rowBars, bar}
+use Rattle.model.proofs.Sound.{Sound, sound, getD-mem}
+use Rattle.model.proofs.EventsLaws.{event-out}
+use Rattle.model.proofs.HappensLaws.{reader-inside, writer-inside}
+use Rattle.judge.specs.Tables.{shapeIn, Entry, Given, hbOf, Ordered, Barred}
+use Rattle.judge.specs.Barring.{reasons, rowBarsIn, gained, Marked, Gathered}
+use Rattle.judge.proofs.TableLaws.{entry-hit, entry-writes, reader-shape, writer-shape}
 
 and-false : (b : Bool) → (b and false) ≡ false
 unfolding _and_
@@ -111,3 +128,144 @@ module _ (k : ℕ) (test : ℕ → Bool) (r : Row) (l m : List ℕ) (f : Marked 
 
   pub marked-more : Marked (k + 1) test r l m′
   marked-more = record { size = gained-size m place (r .reader) (test k) ∙ f .size; holds = step }
+
+-- ---- row by row
+
+any-snoc : {A : Type 0} (f : A → Bool) (l : List A) (a : A) → any f (l ++ (a ∷ [])) ≡ (any f l or f a)
+unfolding any _or_
+any-snoc f [] a = or-none (f a)
+any-snoc f (b ∷ l) a = go (f b) (any-snoc f l a)
+  where
+    go : (c : Bool) → any f (l ++ (a ∷ [])) ≡ (any f l or f a) → (c or any f (l ++ (a ∷ []))) ≡ ((c or any f l) or f a)
+    go true e = refl
+    go false e = e
+
+any-same : {A : Type 0} (f g : A → Bool) (l : List A) → ((a : A) → List·Memᴰ a l → f a ≡ g a) → any f l ≡ any g l
+unfolding any
+any-same f g [] h = refl
+any-same f g (a ∷ l) h = ap (λ (b : Bool). b or any f l) (h a (List·Memᴰ·head refl)) ∙ ap (λ (b : Bool). g a or b) (any-same f g l (λ c m. h c (List·Memᴰ·tail m)))
+
+module _ (s : List ℕ) (x : Sheet) (t succ pred : List ℕ) (k : ℕ) where
+  pub gathered-none : Gathered s x t succ pred k 0 (replicate (slots * slots) 0)
+  unfolding any
+  gathered-none =
+      record {
+        size = length-replicate {A = ℕ} (slots * slots) 0;
+        holds = λ q w v b c. ap (λ (m : ℕ). mem m q) (getD-replicate (slots * slots) (v * slots + w) 0 0 (omega arith)) ∙ mem-empty q;
+      }
+
+  pub gathered-more : (j : ℕ) (l m : List ℕ) → j < x .rows → Gathered s x t succ pred k j l
+      → Marked k (rowBarsIn t succ pred (rowNo s x j)) (rowNo s x j) l m → Gathered s x t succ pred k (j + 1) m
+  gathered-more j l m b g d =
+      record {
+        size = d .size ∙ g .size;
+        holds = λ q w v e f.
+            let h : Row → Bool = λ (r : Row). eqb (r .reader) q and eqb (r .writer) w and ltb v k and rowBarsIn t succ pred r v in
+            let n : j < length (rowsIn s x) = rw (rows-count s (x .head .edition) (x .«rows_at») (x .rows)) b in
+            d .holds q w v e f ∙ ap (λ (y : Bool). y or h (rowNo s x j)) (g .holds q w v e f) ∙ sym (any-snoc h (take j (rowsIn s x)) (rowNo s x j))
+            ∙ ap (any h) (sym (rw add-one (take-suc (rowsIn s x) j noRow n) ∙ ap (λ (r : Row). take j (rowsIn s x) ++ (r ∷ [])) (row-at s (x .head .edition) (x .«rows_at») (x .rows) j b)));
+      }
+
+-- ---- and the model's
+
+third : (a b c d : Bool) → c ≡ false → (a and b and c and d) ≡ false
+unfolding _and_
+third true true c d e = ap (λ (z : Bool). z and d) e
+third true false c d e = refl
+third false b c d e = refl
+
+apart : (a b c : Bool) → ((a and b) and c) ≡ (a and b and c)
+unfolding _and_
+apart true b c = refl
+apart false b c = refl
+
+module _ (s : List ℕ) (x : Sheet) (at t succ pred : List ℕ) (g : Given s x at t) (o : Ordered (execution s x at) succ pred) where
+  abbrev X : Execution
+  X = execution s x at
+
+  events : length (X .events) ≡ x .events
+  events = let z = g .laid .size in let f = g .laid .few in events-count s (x .head .edition) (x .events) at (omega arith)
+
+  entry-of : (e : ℕ) → e < x .events → Entry X t e
+  entry-of e b = g .tabled .entry e (rw events b)
+
+  -- who stands in a row is an event
+  pub reader-event : (r : Row) → List·Memᴰ r (X .rows) → r .reader < x .events
+  reader-event r m = rw events at (reader-inside X (sound X (g .well)) r m)
+
+  pub writer-event : (r : Row) → List·Memᴰ r (X .rows) → r .writer < x .events
+  writer-event r m = rw events at (writer-inside X (sound X (g .well)) r m)
+
+  pub row-mem : (j : ℕ) → j < x .rows → List·Memᴰ (rowNo s x j) (X .rows)
+  row-mem j b =
+      let n : j < length (X .rows) = rw (rows-count s (x .head .edition) (x .«rows_at») (x .rows)) b in
+      subst (λ (r : Row). List·Memᴰ r (X .rows)) (row-at s (x .head .edition) (x .«rows_at») (x .rows) j b) (getD-mem noRow (X .rows) j n)
+
+  -- the tables say of a row and an event what the model says
+  module _ (r : Row) (m : List·Memᴰ r (X .rows)) (v : ℕ) where
+    of-R : shapeAt (event X (r .reader)) (r .address) ≡ shapeIn t (r .reader)
+    of-R = reader-shape X t (r .reader) (r .address) (entry-of (r .reader) (reader-event r m)) (sound X (g .well) .row-reads r m)
+
+    of-W : shapeAt (event X (r .writer)) (r .address) ≡ shapeIn t (r .writer)
+    of-W = writer-shape X t (r .writer) (r .address) (entry-of (r .writer) (writer-event r m)) (sound X (g .well) .row-writes r m)
+
+    -- what is asked of a V that writes the byte, over three shapes
+    abbrev asked : Shape → Shape → Shape → Bool → Bool
+    asked a b c d =
+        sc a
+        and ((bothSc c b and equal a b) or (hbOf succ (r .writer) (r .reader) and d and sc c and equal c a)
+        or (hbOf succ (r .writer) (r .reader) and hbOf succ (r .writer) v and sc b and equal a b))
+
+    rest : covers (shapeIn t v) (r .address) ≡ true → v < x .events
+        → (sc (shapeIn t v) and reasons (shapeIn t v) (shapeIn t (r .reader)) (shapeIn t (r .writer)) (hbOf succ (r .writer) (r .reader)) (mem (getD pred (r .reader) 0) v) (hbOf succ (r .writer) v))
+        ≡ (sc (atRow X r v) and (barA X r v or barB X (hbOf succ) r v or barC X (hbOf succ) r v))
+    unfolding reasons barA barB barC rowSyncs atRow
+    rest h b =
+        let a = sym (entry-hit X t v (r .address) (entry-of v b) h) in
+        let c = sym of-R in
+        let d = sym of-W in
+        let e = o .column v (r .reader) in
+        λ i. asked (a i) (c i) (d i) (e i)
+
+    core : v < x .events
+        → ((covers (shapeIn t v) (r .address) and writes (shapeIn t v))
+        and (sc (shapeIn t v) and reasons (shapeIn t v) (shapeIn t (r .reader)) (shapeIn t (r .writer)) (hbOf succ (r .writer) (r .reader)) (mem (getD pred (r .reader) 0) v) (hbOf succ (r .writer) v)))
+        ≡ (writesAt (event X v) (r .address) and (sc (atRow X r v) and (barA X r v or barB X (hbOf succ) r v or barC X (hbOf succ) r v)))
+    core b = go (covers (shapeIn t v) (r .address) and writes (shapeIn t v)) refl
+      where
+        w : writesAt (event X v) (r .address) ≡ (covers (shapeIn t v) (r .address) and writes (shapeIn t v))
+        w = entry-writes X t v (r .address) (entry-of v b)
+
+        go : (c : Bool) → (covers (shapeIn t v) (r .address) and writes (shapeIn t v)) ≡ c
+            → ((covers (shapeIn t v) (r .address) and writes (shapeIn t v))
+            and (sc (shapeIn t v) and reasons (shapeIn t v) (shapeIn t (r .reader)) (shapeIn t (r .writer)) (hbOf succ (r .writer) (r .reader)) (mem (getD pred (r .reader) 0) v) (hbOf succ (r .writer) v)))
+            ≡ (writesAt (event X v) (r .address) and (sc (atRow X r v) and (barA X r v or barB X (hbOf succ) r v or barC X (hbOf succ) r v)))
+        go false q = and-fails (covers (shapeIn t v) (r .address) and writes (shapeIn t v)) _ q ∙ sym (and-fails (writesAt (event X v) (r .address)) _ (w ∙ q))
+        go true q =
+            and-holds (covers (shapeIn t v) (r .address) and writes (shapeIn t v)) _ q
+            ∙ rest (and-both (covers (shapeIn t v) (r .address)) (writes (shapeIn t v)) q .0) b ∙ sym (and-holds (writesAt (event X v) (r .address)) _ (w ∙ q))
+
+    same-bars : (ltb v (x .events) and rowBarsIn t succ pred r v) ≡ rowBars X (hbOf succ) r v
+    unfolding rowBarsIn rowBars
+    same-bars = go (ltb v (x .events)) refl
+      where
+        go : (b : Bool) → ltb v (x .events) ≡ b → (ltb v (x .events) and rowBarsIn t succ pred r v) ≡ rowBars X (hbOf succ) r v
+        go false p =
+            and-fails (ltb v (x .events)) (rowBarsIn t succ pred r v) p
+            ∙ sym (third (non (eqb v (r .reader))) (non (eqb v (r .writer))) (writesAt (event X v) (r .address)) _
+            (ap (λ (d : Event). writesAt d (r .address)) (event-out X v (rw events (ltb-false v (x .events) p))) ∙ writesAt-nobody (r .address)))
+        go true p =
+            and-holds (ltb v (x .events)) (rowBarsIn t succ pred r v) p ∙ apart (non (eqb v (r .reader))) (non (eqb v (r .writer))) _
+            ∙ ap (λ (z : Bool). non (eqb v (r .reader)) and non (eqb v (r .writer)) and z) (core (ltb-true v (x .events) p))
+
+  pub gathered-all : (l : List ℕ) → Gathered s x t succ pred (x .events) (x .rows) l → Barred X succ l
+  unfolding bar
+  gathered-all l f =
+      record {
+        size = f .size;
+        holds = λ q w v b c.
+            f .holds q w v b c
+            ∙ ap (any (λ (r : Row). eqb (r .reader) q and eqb (r .writer) w and ltb v (x .events) and rowBarsIn t succ pred r v)) (take-all (x .rows) (rowsIn s x) (let n = rows-count s (x .head .edition) (x .«rows_at») (x .rows) in omega arith))
+            ∙ any-same (λ (r : Row). eqb (r .reader) q and eqb (r .writer) w and ltb v (x .events) and rowBarsIn t succ pred r v) (λ (r : Row). eqb (r .reader) q and eqb (r .writer) w and rowBars X (hbOf succ) r v) (X .rows)
+            (λ r m. ap (λ (z : Bool). eqb (r .reader) q and eqb (r .writer) w and z) (same-bars r m v));
+      }

@@ -1,17 +1,25 @@
 -- The laws of the table of events (specs/Tables.antt): an entry written, and all of them. Assumes nothing.
 --     put-size, put-agent, put-shape, put-other-agent, put-other-shape     one entry written
+--     entry-hit, entry-reads, entry-writes, reader-shape, writer-shape     what an event does, by its entry
 --     Filled, filled-none, filled-more, filled-all                         the first e entries are written
 use mathlib.Core.Path.{_≡_, refl, sym, ap, _∙_, subst}
 use mathlib.Core.Logic.{_⊎_, ⊎-elim}
+use mathlib.Core.Bool.{true}
 use mathlib.Core.List.{List, [], _∷_}
 use Prim.Native.Nat.{ℕ, _+_, _<_, _≤_}
 use native.Mathlib.Omega.{arith}
 use native.Mathlib.Nat.{eq-or-lt-of-le}
+use lib.Dec.{T}
 use lib.ListN.{length, getD, set, length-set}
 use lib.Seq.{getD-set-same, getD-set-other}
 use Rattle.format.specs.declared.Shape.{Shape}
 use Rattle.format.specs.Limits.{slots}
-use Rattle.format.specs.Execution.{event}
+use Rattle.basis.specs.Test.{_and_}
+use Rattle.basis.proofs.LoopLaws.{T-true, and-both}
+use Rattle.format.specs.Shape.{reads, writes, covers}
+use Rattle.format.specs.Event.{Access, Event, shapeAt, readsAt, writesAt}
+use Rattle.format.proofs.EventLaws.{access-hit, readsAt-one, writesAt-one}
+use Rattle.format.specs.Execution.{Execution, event}
 use Rattle.format.specs.Field.{valueAt}
 use Rattle.format.specs.Layout.{agentOf, shapeOf, seenOf, writtenOf}
 use Rattle.sheet.specs.declared.Sheet.{Sheet}
@@ -148,3 +156,22 @@ filled-all s x at t l f =
                 ∙ (λ i. record { agent = sym (f .agent e c) i; accesses = record { shape = sym (f .shape e c) i; seen = seenOf (x .head .edition) v; written = writtenOf (x .head .edition) v } ∷ [] });
           };
     }
+
+-- ---- what an event does, by its entry
+
+module _ (x : Execution) (t : List ℕ) (e n : ℕ) (k : Entry x t e) where
+  pub entry-hit : covers (shapeIn t e) n ≡ true → shapeAt (event x e) n ≡ shapeIn t e
+  unfolding shapeAt
+  entry-hit h = ap (λ (d : Event). shapeAt d n) (k .is) ∙ ap {B = Shape} (λ (a : Access). a .shape) (access-hit (agentIn t e) (record { shape = shapeIn t e; seen = k .seen; written = k .written }) n h)
+
+  pub entry-reads : readsAt (event x e) n ≡ (covers (shapeIn t e) n and reads (shapeIn t e))
+  entry-reads = ap (λ (d : Event). readsAt d n) (k .is) ∙ readsAt-one (agentIn t e) (record { shape = shapeIn t e; seen = k .seen; written = k .written }) n
+
+  pub entry-writes : writesAt (event x e) n ≡ (covers (shapeIn t e) n and writes (shapeIn t e))
+  entry-writes = ap (λ (d : Event). writesAt d n) (k .is) ∙ writesAt-one (agentIn t e) (record { shape = shapeIn t e; seen = k .seen; written = k .written }) n
+
+  pub reader-shape : T (readsAt (event x e) n) → shapeAt (event x e) n ≡ shapeIn t e
+  reader-shape w = entry-hit (and-both (covers (shapeIn t e) n) (reads (shapeIn t e)) (sym entry-reads ∙ T-true _ w) .0)
+
+  pub writer-shape : T (writesAt (event x e) n) → shapeAt (event x e) n ≡ shapeIn t e
+  writer-shape w = entry-hit (and-both (covers (shapeIn t e) n) (writes (shapeIn t e)) (sym entry-writes ∙ T-true _ w) .0)

@@ -3,18 +3,21 @@
 --     rowBarsIn t succ pred r v     event v is barred between the writer and the reader of the row r
 --     gained                        a mask of a list with an event more, where a test passed
 --     Marked                        the bars of a row for the events below k have been added
+--     Gathered                      the bars of the first rows have been added
 -- Assumes nothing.
 use mathlib.Core.Path.{_≡_}
 use mathlib.Core.Bool.{Bool, cond}
 use mathlib.Core.List.{List}
 use Prim.Native.Nat.{ℕ, _+_, _*_, _<_}
 use lib.Dec.{eqb, ltb}
-use lib.ListN.{length, getD, set}
-use Rattle.basis.specs.Test.{_and_, _or_, non}
+use lib.ListN.{length, getD, set, take}
+use Rattle.basis.specs.Test.{_and_, _or_, non, any}
 use Rattle.format.specs.declared.Shape.{Shape}
 use Rattle.format.specs.declared.Row.{Row}
 use Rattle.format.specs.Limits.{slots}
 use Rattle.format.specs.Shape.{writes, sc, covers, equal, bothSc}
+use Rattle.sheet.specs.declared.Sheet.{Sheet}
+use Rattle.sheet.specs.Handed.{rowsIn}
 use Rattle.sets.specs.Mask.{mem, insert}
 use Rattle.judge.specs.Tables.{shapeIn, hbOf}
 
@@ -40,3 +43,9 @@ pub record Marked (k : ℕ) (test : ℕ → Bool) (r : Row) (entry exit : List �
   pub size : length exit ≡ length entry
   pub holds : (q w v : ℕ) → w < slots → v < slots
       → mem (getD exit (v * slots + w) 0) q ≡ (mem (getD entry (v * slots + w) 0) q or (eqb (r .reader) q and eqb (r .writer) w and ltb v k and test v))
+
+-- the bars of the first j rows have been added, for the events below k
+pub record Gathered (s : List ℕ) (x : Sheet) (t succ pred : List ℕ) (k j : ℕ) (bars : List ℕ) : Type 0 where
+  pub size : length bars ≡ slots * slots
+  pub holds : (q w v : ℕ) → w < slots → v < slots
+      → mem (getD bars (v * slots + w) 0) q ≡ any (λ (r : Row). eqb (r .reader) q and eqb (r .writer) w and ltb v k and rowBarsIn t succ pred r v) (take j (rowsIn s x))

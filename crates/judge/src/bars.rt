@@ -80,3 +80,25 @@ fn add(t: &[u8], n: usize, succ: &[u32], pred: &[u32], r: Row, bars: &mut [u32])
         v += 1;
     }
 }
+
+// All bars, from masks that are empty.
+pub(crate) fn fill(
+    s: &[u8],
+    x: Sheet,
+    at: &[u16],
+    t: &[u8],
+    succ: &[u32],
+    pred: &[u32],
+    bars: &mut [u32],
+)
+    requires { ⌜ Given (now s) x (now at) (now t) × Ordered (execution (now s) x (now at)) (now succ) (now pred) × (now bars ≡ replicate (slots * slots) 0) ⌝ }
+    ensures { λ _. ⌜ Barred (execution (now (s .entry)) x (now (at .entry))) (now (succ .entry)) (now (bars .exit)) ⌝ }
+{
+    let n = x.events as usize;
+    let rows = x.rows;
+    let mut j: u16 = 0;
+    while j < rows {
+        add(t, n, succ, pred, entry::row_no(s, x, j), bars);
+        j += 1;
+    }
+}

@@ -1,2 +1,4 @@
 pub mod TableLaws
 pub mod BarringLaws
+pub mod FindLaws
+pub mod SettlingLaws

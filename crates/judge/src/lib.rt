@@ -2,6 +2,7 @@
 use answer::Names;
 
 mod bars;
+mod settle;
 mod table;
 
 // What a rule finds: nothing, or its number and its names.

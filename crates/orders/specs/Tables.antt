@@ -1,7 +1,7 @@
 -- The problem that two tables of masks state. Laws: proofs/TablesLaws.antt. Assumes nothing.
 --     tabled m before bars     the problem with m events: before[b] is the mask of the a that have to come before b, and
 --                              bars[v * 32 + w] that of the r with a bar (r, w, v)
---     barAt bars v w           where the bars of v and w stand
+--     barAt bars v w           the mask of the r with a bar (r, w, v)
 use Prim.Native.Nat.{ℕ, _+_, _*_, _<_}
 use mathlib.Core.List.{List}
 use lib.ListN.{getD}

@@ -2,8 +2,8 @@
 -- up in the table by its members from k up, the events that are no inits. No public contract cites this file.
 -- Laws: proofs/TablesLaws.antt, StandLaws.antt, SeekLaws.antt, TallyLaws.antt, AnswerLaws.antt. Assumes nothing.
 --     Unbarred m bars s v          with the events of s placed, no bar forbids to place v
---     Writers m bars v c           c is the set of the w that have a bar (r, w, v)
---     Gathered m bars writers      writers[v] is that set for v
+--     Writers m bars v c           c has every w below m that has a bar (r, w, v), and nothing from m up
+--     Gathered m bars writers      writers[v] is such a set, for each v
 --     isSeen k table s e           whether the table marks the set s with e
 --     Tried P k table s j          of the events below j that can be placed after those of s, each leads to a marked set
 --     NextIs P k table s r         r is the lowest event that can be placed after those of s and leads to a set that is not marked

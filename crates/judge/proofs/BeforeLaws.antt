@@ -1,14 +1,15 @@
--- Laws of specs/Steps.antt: how the rows of successors are collected, and that the collected steps are the model's. Assumes nothing.
+-- Laws of specs/Steps.antt: how the rows of successors are collected. Assumes nothing.
 --     picked-none, picked-in, picked-out     a mask, number by number
---     direct-none, direct-more               the rows of the events by themselves
---     adds-none, adds-edge, adds-more        rows that grow
---     turned-none, turned-more               the columns
+--     below-set, above-set                   rows that are written one by one
 --     blank                                  rows of zeros
+--     adds-none, adds-edge                   rows as they were, and with one step more
+--     adds-start, adds-more, adds-all        rows with a step for each entry of a list
+--     row-passes, row-fails                  a row of the sheet that makes a step, and one that makes none
 use mathlib.Core.Path.{_≡_, refl, sym, ap, _∙_, subst}
-use mathlib.Core.Bool.{Bool, true, false, cond, _||_, or-false}
+use mathlib.Core.Bool.{Bool, true, false, _||_, or-false}
 use mathlib.Core.List.{List, [], _∷_, _++_}
-use Prim.Native.Nat.{ℕ, zero, suc, _+_, _^_, _≤_, _<_}
-use native.Mathlib.Nat.{le-refl, lt-of-lt-of-le, le-add-right, not-suc-le-zero}
+use Prim.Native.Nat.{ℕ, _+_, _^_, _≤_, _<_}
+use native.Mathlib.Nat.{le-refl, lt-of-lt-of-le, le-add-right}
 use native.Mathlib.Numerals.{add-one}
 use native.Mathlib.Decide.{ℕ-discrete, decLt}
 use native.Mathlib.Omega.{arith}
@@ -22,7 +23,6 @@ use Rattle.basis.specs.Test.{_and_, _or_, any}
 use Rattle.basis.proofs.LoopLaws.{or-none, and-holds, and-fails}
 use Rattle.format.specs.Limits.{slots}
 use Rattle.sets.specs.Mask.{mem, insert}
-use Rattle.sets.specs.Closure.{IsColumn}
 use Rattle.sets.proofs.MaskLaws.{mem-empty, mem-insert, mem-beyond, insert-lt, insert-new}
 use Rattle.format.specs.declared.Row.{Row}
 use Rattle.format.specs.Shape.{bothSc}

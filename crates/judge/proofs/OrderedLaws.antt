@@ -1,36 +1,35 @@
 -- The steps that the judge collects are the model's, and closed they test happens-before. Assumes nothing.
---     agent-is, two-is, shape-is     event e of an execution, by the table
---     row-shapes                     a row's own two accesses, by the table
---     init-number                    the inits are the first numbers
---     count, ends                    how many events there are; rows and pairs name events
+--     agent-is, two-is, shape-is     the events of an execution, by the table
+--     reader-is, writer-is           a row's own two accesses, by the table
+--     direct-is, row-is              what is asked of two events, and of a row, is what the model asks
 --     step-is                        the collected rows hold the model's steps
---     ordered                        closed and turned, they are happens-before
+--     tests, ordered                 closed and turned, they are happens-before
+--     count, ends, init-number       of a sheet: how many events; rows and pairs name events; the inits are the first numbers
 use mathlib.Core.Path.{_≡_, refl, sym, ap, ap₂, _∙_, subst}
-use mathlib.Core.Logic.{_⊎_, inl, inr, _↔_}
+use mathlib.Core.Logic.{_⊎_, inl, inr}
 use mathlib.Core.Bool.{Bool, true, false, cond}
 use mathlib.Core.List.{List, [], _∷_, List·Memᴰ, List·Memᴰ·eq-of-singleton}
-use Prim.Native.Nat.{ℕ, zero, suc, _+_, _^_, _≤_, _<_}
-use native.Mathlib.Nat.{not-suc-le-zero}
+use Prim.Native.Nat.{ℕ, zero, suc, _+_, _≤_, _<_, zero-le}
 use native.Mathlib.Decide.{ℕ-discrete, decLt}
 use native.Mathlib.Omega.{arith}
-use borrow.Author.Tests.{eq-eqb, ne-eqb, lt-ltb, le-ltb}
+use borrow.Author.Tests.{lt-ltb, le-ltb}
 use lib.Dec.{T, eqb, ltb, eqb·suc-zero}
 use lib.ListN.{length, getD}
-use Rattle.basis.specs.Test.{_and_, _or_, non, any}
+use Rattle.basis.specs.Test.{_and_, _or_, non, any, number}
 use Rattle.basis.proofs.TestLaws.{same-test, or-cases, or-left, or-right, any-elim, any-intro}
-use Rattle.basis.proofs.LoopLaws.{or-none, and-holds, and-fails, or-fails, true-T, T-true, false-T, T-false}
+use Rattle.basis.proofs.LoopLaws.{or-none, true-T, T-true, false-T, T-false}
 use Rattle.format.specs.declared.Row.{Row}
 use Rattle.format.specs.declared.Pair.{Pair}
 use Rattle.format.specs.declared.Shape.{Shape}
 use Rattle.format.specs.Shape.{overlap, covers, bothSc}
 use Rattle.format.specs.Limits.{slots}
-use Rattle.format.specs.Event.{Access, Event, isInit, shapeAt}
-use Rattle.format.specs.Execution.{Execution, event, inits, noRow, noPair}
+use Rattle.format.specs.Event.{Access, Event, nobody, isInit, shapeAt}
+use Rattle.format.specs.Execution.{Execution, eventNo, event, inits, noRow, noPair}
 use Rattle.sheet.specs.declared.Sheet.{Sheet}
 use Rattle.sheet.specs.Handed.{execution, rowsIn, pairsIn}
 use Rattle.sheet.specs.Promise.{WellFormed}
 use Rattle.sheet.proofs.HandedLaws.{events-count, rows-count, row-at, pairs-count, pair-at}
-use Rattle.sets.specs.Mask.{mem, Has}
+use Rattle.sets.specs.Mask.{mem}
 use Rattle.sets.specs.Closure.{Closed, IsColumn}
 use Rattle.sets.proofs.MaskLaws.{mem-empty, mem-lt, mem-beyond, ext-all}
 use Rattle.model.specs.Events.{anyTwo, atRow}
@@ -38,8 +37,8 @@ use Rattle.model.specs.Happens.{agentOrder, rowSyncs, synchronises, initFirst, 
 use Rattle.model.proofs.EventsLaws.{shape-mem, reads-covers, writes-covers}
 use Rattle.model.proofs.Sound.{Sound, sound, getD-mem}
 use Rattle.model.proofs.HappensLaws.{step-inside, happens-inside, reader-inside, writer-inside, closed-tests}
-use Rattle.judge.specs.Tables.{agentIn, shapeIn, Entry, Tabled, Given, hbOf, Ordered}
-use Rattle.judge.specs.Steps.{Picked, laterIn, metIn, directIn, Direct, rowStep, pairStep, Adds, Ends}
+use Rattle.judge.specs.Tables.{agentIn, shapeIn, Tabled, Given, hbOf, Ordered}
+use Rattle.judge.specs.Steps.{metIn, directIn, Direct, rowStep, pairStep, Adds, Ends}
 
 -- ---- tests
 
@@ -173,6 +172,26 @@ module _ (x : Execution) (t : List ℕ) (tab : Tabled x t) (so : Sound x) (n : �
 
 -- ---- a sheet
 
+front-count : (f : Event → Bool) (l : List Event) (k : ℕ) → k ≤ length l → ((i : ℕ) → i < k → T (f (getD l i nobody))) → k ≤ number f l
+unfolding number
+front-count f l zero h p = zero-le
+front-count f [] (suc k) h p = absurd (omega arith)
+front-count f (a ∷ l) (suc k) h p = go (f a) (p 0 (omega arith)) (front-count f l k (omega arith) (λ i q. p (suc i) (omega arith)))
+  where
+    go : (b : Bool) → T b → k ≤ number f l → suc k ≤ cond b (suc (number f l)) (number f l)
+    go true s q = omega arith
+    go false s q = absurd s
+
+-- the inits stand in front, so that an init's number is below their count
+init-below : (x : Execution) → WellFormed x → (e : ℕ) → e < length (x .events) → T (isInit (event x e)) → e < inits (x .events)
+unfolding inits event eventNo
+init-below x wf e h s =
+    omega (arith, front-count isInit (x .events) (e + 1) (omega arith) (λ i q. go i (ℕ-discrete i e) q))
+  where
+    go : (i : ℕ) → Dec (i ≡ e) → i < e + 1 → T (isInit (getD (x .events) i nobody))
+    go i (yes k) q = subst (λ (j : ℕ). T (isInit (getD (x .events) j nobody))) (sym k) s
+    go i (no f) q = wf .inits-first i e (omega arith) h s
+
 module _ (s : List ℕ) (x : Sheet) (at t : List ℕ) (g : Given s x at t) where
   pub count : length (execution s x at .events) ≡ x .events
   count = events-count s (x .head .edition) (x .events) at (let k = g .laid .size in let l = g .laid .few in omega arith)
@@ -206,3 +225,13 @@ module _ (s : List ℕ) (x : Sheet) (at t : List ℕ) (g : Given s x at t) where
     second = λ j l. subst (λ (p : Pair). p .second < slots) (pair-at s (x .«pairs_at») (x .pairs) j l)
         (of-pair (λ p. p .second < slots) (λ p m. slot (p .second) (so .pair-second p m)) j l);
   }
+
+  pub init-number : (e : ℕ) → e < x .events → isInit (event (execution s x at) e) ≡ ltb e (x .inits)
+  init-number e h = go (decLt e (x .inits))
+    where
+      is : x .inits ≡ inits (execution s x at .events)
+      is = g .laid .inits
+
+      go : Dec (e < x .inits) → isInit (event (execution s x at) e) ≡ ltb e (x .inits)
+      go (yes l) = T-true _ (so .init-low e (omega (arith, is))) ∙ sym (lt-ltb e (x .inits) l)
+      go (no f) = T-false _ (λ i. f (let l = init-below (execution s x at) (g .well) e (omega (arith, count)) i in omega (arith, is))) ∙ sym (le-ltb e (x .inits) (omega arith))

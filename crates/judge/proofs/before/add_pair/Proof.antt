@@ -1,12 +1,10 @@
 -- `judge::before::add_pair` meets its contract. Assumes nothing.
 use mathlib.Core.Path.{_≡_, refl, sym, ap, _∙_, subst}
-use mathlib.Core.List.{List}
-use Prim.Native.Nat.{ℕ, _%_, _<_}
+use Prim.Native.Nat.{ℕ}
 use native.Mathlib.Nat.{mod-eq-of-lt}
 use native.Mathlib.Omega.{arith}
 use denote.Ref.{now}
-use lib.ListN.{length, getD, set}
-use Rattle.format.specs.Limits.{slots}
+use lib.ListN.{getD, set}
 use Rattle.sets.specs.Mask.{insert}
 use Rattle.judge.specs.Steps.{Adds, pairStep}
 use Rattle.judge.proofs.BeforeLaws.{adds-edge}

@@ -1,15 +1,11 @@
 -- `judge::before::add_row` meets its contract. Assumes nothing.
-use mathlib.Core.Path.{_≡_, refl, sym, ap, ap₂, _∙_, subst}
-use mathlib.Core.Bool.{Bool, true, false}
-use mathlib.Core.List.{List}
-use Prim.Native.Nat.{ℕ, _%_, _<_}
+use mathlib.Core.Path.{_≡_, sym, ap, ap₂, _∙_, subst}
+use mathlib.Core.Bool.{true, false}
+use Prim.Native.Nat.{ℕ}
 use native.Mathlib.Nat.{mod-eq-of-lt}
 use native.Mathlib.Omega.{arith}
 use denote.Ref.{now}
-use lib.Dec.{eqb}
-use lib.ListN.{length, getD, set}
-use Rattle.basis.specs.Test.{_and_}
-use Rattle.format.specs.Limits.{slots}
+use lib.ListN.{getD, set}
 use Rattle.format.specs.Shape.{bothSc}
 use Rattle.sets.specs.Mask.{insert}
 use Rattle.judge.specs.Tables.{shapeIn}

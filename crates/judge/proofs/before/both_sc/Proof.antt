@@ -1,5 +1,4 @@
 -- `judge::before::both_sc` meets its contract. Assumes nothing.
-use mathlib.Core.Path.{refl}
 use Rattle.basis.specs.Test.{_and_}
 use Rattle.format.specs.Shape.{sc, bothSc}
 use borrow.Author.Needs.{needs}

@@ -1,12 +1,12 @@
 -- `judge::before::direct` meets its contract. The invariant: the rows below e are there, the others are empty. The measure is what is left. Assumes nothing.
-use mathlib.Core.Path.{_≡_, sym, ap, _∙_, subst}
-use Prim.Native.Nat.{ℕ, _+_, _-_, _≤_, _<_}
+use mathlib.Core.Path.{_≡_, sym, _∙_}
+use Prim.Native.Nat.{ℕ, _-_, _≤_, _<_}
 use native.Mathlib.Nat.{not-suc-le-zero}
 use native.Mathlib.Omega.{arith}
 use denote.Ref.{now}
-use lib.ListN.{length, getD, set, length-set}
+use lib.ListN.{length, getD, length-set}
 use Rattle.format.specs.Limits.{slots}
-use Rattle.judge.specs.Steps.{Picked, directIn, Direct}
+use Rattle.judge.specs.Steps.{Picked, directIn}
 use Rattle.judge.proofs.BeforeLaws.{below-set, above-set}
 use borrow.Author.Needs.{needs}
 use Rattle.judge.proofs.before.direct.Statement.{statement}

@@ -1,17 +1,15 @@
 -- `judge::before::later` meets its contract. The invariant: the mask of those below d. The measure is what is left. Assumes nothing.
 use mathlib.Core.Path.{_≡_, sym, ap, ap₂, _∙_, subst}
 use mathlib.Core.Logic.{⊎-elim}
-use mathlib.Core.Bool.{Bool}
 use Prim.Native.Nat.{ℕ, _+_, _-_, _%_, _≤_, _<_}
 use native.Mathlib.Nat.{mod-eq-of-lt}
 use native.Mathlib.Omega.{arith}
 use borrow.Author.Tests.{lt-ltb, le-ltb, eq-eqb, ne-eqb}
-use lib.Dec.{eqb, ltb}
+use lib.Dec.{eqb}
 use denote.Ref.{now}
 use Rattle.basis.proofs.LoopLaws.{and-holds, and-fails}
 use Rattle.format.specs.Limits.{slots}
 use Rattle.sets.specs.Mask.{insert}
-use Rattle.judge.specs.Tables.{agentIn}
 use Rattle.judge.specs.Steps.{Picked, laterIn}
 use Rattle.judge.proofs.BeforeLaws.{picked-none, picked-in, picked-out}
 use borrow.Author.Needs.{needs}

@@ -2,7 +2,7 @@
 use mathlib.Core.Path.{_≡_, sym, ap, ap₂, _∙_, subst}
 use mathlib.Core.Logic.{⊎-elim}
 use mathlib.Core.Bool.{Bool, not, _&&_}
-use Prim.Native.Nat.{ℕ, _+_, _-_, _%_, _≤_, _<_}
+use Prim.Native.Nat.{ℕ, _+_, _-_, _%_, _≤_}
 use native.Mathlib.Nat.{mod-eq-of-lt, not-suc-le-zero}
 use native.Mathlib.Omega.{arith}
 use lib.Dec.{eqb}
@@ -11,7 +11,6 @@ use Rattle.basis.specs.Test.{_and_, non}
 use Rattle.format.specs.Limits.{slots}
 use Rattle.format.specs.Shape.{overlap}
 use Rattle.sets.specs.Mask.{insert}
-use Rattle.judge.specs.Tables.{shapeIn}
 use Rattle.judge.specs.Steps.{Picked, metIn}
 use Rattle.judge.proofs.BeforeLaws.{picked-none, picked-in, picked-out}
 use borrow.Author.Needs.{needs}

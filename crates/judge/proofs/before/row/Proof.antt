@@ -1,10 +1,9 @@
 -- `judge::before::row` meets its contract: what is asked of an event is decided by its agent. Assumes nothing.
-use mathlib.Core.Path.{_≡_, sym, ap, _∙_}
+use mathlib.Core.Path.{sym, ap, _∙_}
 use mathlib.Core.Bool.{Bool, cond}
 use Prim.Native.Nat.{ℕ}
 use borrow.Author.Tests.{eq-eqb, ne-eqb}
 use denote.Ref.{now}
-use lib.Dec.{eqb}
 use Rattle.judge.specs.Tables.{agentIn}
 use Rattle.judge.specs.Steps.{laterIn, metIn, directIn}
 use Rattle.judge.proofs.BeforeLaws.{picked-same}

@@ -1,10 +1,10 @@
 -- `judge::before::turn` meets its contract. The invariant: the columns below d are there, the others are empty. The measure is what is left. Assumes nothing.
-use mathlib.Core.Path.{_≡_, sym, ap, _∙_, subst}
-use Prim.Native.Nat.{ℕ, _+_, _-_, _%_, _≤_, _<_}
+use mathlib.Core.Path.{_≡_, sym, _∙_, subst}
+use Prim.Native.Nat.{ℕ, _-_, _%_, _≤_, _<_}
 use native.Mathlib.Nat.{mod-eq-of-lt, not-suc-le-zero}
 use native.Mathlib.Omega.{arith}
 use denote.Ref.{now}
-use lib.ListN.{length, getD, set, length-set}
+use lib.ListN.{length, getD, length-set}
 use Rattle.format.specs.Limits.{slots}
 use Rattle.sets.specs.Closure.{taken, IsColumn}
 use Rattle.judge.proofs.BeforeLaws.{below-set, above-set}

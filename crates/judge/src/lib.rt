@@ -2,6 +2,7 @@
 use answer::Names;
 
 mod bars;
+mod before;
 mod settle;
 mod table;
 

@@ -14,3 +14,5 @@ pub mod Warshall
 pub mod ClosureLaws
 pub mod SearchLaws
 pub mod OutcomeLaws
+pub mod DescribedLaws
+pub mod Demands

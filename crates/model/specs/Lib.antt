@@ -6,3 +6,5 @@ pub mod Order
 pub mod Unsettled
 pub mod Memory
 pub mod Judged
+pub mod Described
+pub mod Demands

@@ -123,7 +123,7 @@ module _ (s scratch order : List ℕ) where
       moved execution-same (j .hb) (k .hb) (j .tests) (k .tests) (λ x hb. t ≡ settledOf (unsettledPair x hb)) (j .pair) ∙ sym (k .pair),
       j .scratch-cleared ∙ ap (λ (x : Execution). cleared (needed x) scratch) execution-same ∙ sym (k .scratch-cleared),
       sym (take-append-drop (length (k .execution .events)) q) ∙ ap (λ (l : List ℕ). l ++ drop (length (k .execution .events)) q) front-same
-      ∙ ap (λ (l : List ℕ). take (length (k .execution .events)) q′ ++ l) rest-same ∙ take-append-drop (length (k .execution .events)) q′,
+          ∙ ap (λ (l : List ℕ). take (length (k .execution .events)) q′ ++ l) rest-same ∙ take-append-drop (length (k .execution .events)) q′,
     )
 
   pub judged-unique : (a b : Answer) (p q p′ q′ : List ℕ) → Judged s scratch order a p q → Judged s scratch order b p′ q′ → (a ≡ b) × (p ≡ p′) × (q ≡ q′)

@@ -16,3 +16,4 @@ pub mod SearchLaws
 pub mod OutcomeLaws
 pub mod DescribedLaws
 pub mod Demands
+pub mod Litmus

@@ -163,9 +163,14 @@ module _ (x : Execution) (hb : ℕ → ℕ → Bool) (so : Sound x) (tests : Tes
   bar-mem : (r w v : ℕ) → v < length (x .events) → T (bar x hb r w v) → (p : Row × ℕ) × List·Memᴰ p (barList x hb) × (p .0 .reader ≡ r) × (p .0 .writer ≡ w) × (p .1 ≡ v)
   unfolding barList
   bar-mem r w v h t =
-      let k = bar-elim x hb r w v t in
-      ((k .0, v), kept-intro (λ (p : Row × ℕ). rowBars x hb (p .0) (p .1)) (across (x .rows) (numbers x)) (k .0, v)
-      (across-mem (x .rows) (numbers x) (k .0) v (k .1) (number-mem x v h)) (k .4), k .2, k .3, refl)
+      let k = bar-elim x hb r w v t in (
+        (k .0, v),
+        kept-intro (λ (p : Row × ℕ). rowBars x hb (p .0) (p .1)) (across (x .rows) (numbers x)) (k .0, v)
+            (across-mem (x .rows) (numbers x) (k .0) v (k .1) (number-mem x v h)) (k .4),
+        k .2,
+        k .3,
+        refl,
+      )
 
   mem-bar : (p : Row × ℕ) → List·Memᴰ p (barList x hb) → T (bar x hb (p .0 .reader) (p .0 .writer) (p .1))
   unfolding barList

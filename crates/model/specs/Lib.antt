@@ -7,4 +7,6 @@ pub mod Unsettled
 pub mod Memory
 pub mod Judged
 pub mod Described
+pub mod Litmus
+pub mod Further
 pub mod Demands

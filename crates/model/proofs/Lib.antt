@@ -16,4 +16,5 @@ pub mod SearchLaws
 pub mod OutcomeLaws
 pub mod DescribedLaws
 pub mod Demands
+pub mod Single
 pub mod Litmus

@@ -14,3 +14,7 @@ pub mod Warshall
 pub mod ClosureLaws
 pub mod SearchLaws
 pub mod OutcomeLaws
+pub mod DescribedLaws
+pub mod Demands
+pub mod Single
+pub mod Litmus

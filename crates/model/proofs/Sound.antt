@@ -32,6 +32,7 @@ pub record Sound (x : Execution) : Type 0 where
   pub has-row : (e n : ℕ) → T (readsAt (event x e) n) → (r : Row) × List·Memᴰ r (x .rows) × (r .reader ≡ e) × (r .address ≡ n)
   pub pair-first : (p : Pair) → List·Memᴰ p (x .pairs) → p .first < length (x .events)
   pub pair-second : (p : Pair) → List·Memᴰ p (x .pairs) → p .second < length (x .events)
+  pub pair-marker : (p : Pair) → List·Memᴰ p (x .pairs) → T (isMarker (event x (p .second)))
   pub pair-agent : (p : Pair) → List·Memᴰ p (x .pairs) → 0 < event x (p .second) .agent
   pub init-low : (e : ℕ) → e < inits (x .events) → T (isInit (event x e))
   pub init-access : (e : ℕ) → T (isInit (event x e)) → (a : Access) → List·Memᴰ a (event x e .accesses) → (a .shape .kind ≡ 2) × (a .shape .mode ≡ 0)
@@ -123,6 +124,7 @@ module _ (x : Execution) (wf : WellFormed x) where
     has-row = λ e n t. let w = wf .row-for-each e n t in (row x (w .number), getD-mem noRow (x .rows) (w .number) (w .there), w .reader, w .address);
     pair-first = of-pair (λ p. p .first < length (x .events)) (λ j h. marker-inside _ (wf .pair-markers j h .0));
     pair-second = of-pair (λ p. p .second < length (x .events)) (λ j h. marker-inside _ (wf .pair-markers j h .1));
+    pair-marker = of-pair (λ p. T (isMarker (event x (p .second)))) (λ j h. wf .pair-markers j h .1);
     pair-agent = of-pair (λ p. 0 < event x (p .second) .agent) (λ j h. marker-agent _ (wf .pair-markers j h .1));
     init-low = low;
     init-access = access-of;

@@ -6,3 +6,8 @@ pub mod Order
 pub mod Unsettled
 pub mod Memory
 pub mod Judged
+pub mod Described
+pub mod Sentences
+pub mod Litmus
+pub mod Further
+pub mod Demands

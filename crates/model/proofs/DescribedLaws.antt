@@ -1,0 +1,68 @@
+-- The laws of specs/Described.antt. Assumes nothing.
+--     parse-described     where a sheet is not refused, it describes what its fields describe
+--     rowless-refused     a sheet with a read byte without a row describes no execution
+use mathlib.Core.Path.{_≡_, refl, sym, _∙_, ap, subst}
+use mathlib.Core.Bool.{Bool, true, false, cond}
+use mathlib.Core.List.{List}
+use mathlib.Core.Option.{Option, none, some}
+use Prim.Native.Nat.{ℕ, zero, suc}
+use native.Mathlib.Omega.{arith}
+use lib.Dec.{ltb, eqb}
+use lib.ListN.{length}
+use Rattle.basis.specs.Test.{non, any}
+use Rattle.format.specs.Limits.{maxBytes}
+use Rattle.format.specs.Event.{readsSome}
+use Rattle.format.specs.Execution.{Execution}
+use Rattle.format.specs.Field.{nextAt}
+use Rattle.sheet.specs.Parse.{Parsed, refused, whole, placeOf, State, blank, faultAt, after, lowestLacking, completed, finish, fieldsFrom, parse}
+use Rattle.sheet.specs.Promise.{WellFormed, row}
+use Rattle.sheet.proofs.PromiseLaws.{promise}
+use Rattle.model.specs.Described.{fieldsTaken, described, Rowless}
+use Rattle.model.proofs.Sound.{sound}
+
+not-whole : {A : Type 0} {n p : ℕ} {x : Execution} → refused n p ≡ whole x → A
+not-whole e = let z : _≡_ {A = ℕ} 0 1 = cc in absurd (omega arith)
+
+completed-whole : (st : State) (o : Option ℕ) (x : Execution) → completed st o ≡ whole x → x ≡ st .got
+unfolding completed
+completed-whole st none x e = cc
+completed-whole st (some d) x e = not-whole e
+
+finish-whole : (s : List ℕ) (st : State) (x : Execution) → finish s st ≡ whole x → x ≡ st .got
+unfolding finish
+finish-whole s st x e = go (eqb (st .tag) 0) (non (any readsSome (st .got .events))) e
+  where
+    go : (a b : Bool) → cond a (refused 3 0) (cond b (refused 10 (length s)) (completed st (lowestLacking (st .got)))) ≡ whole x → x ≡ st .got
+    go true b q = not-whole q
+    go false true q = not-whole q
+    go false false q = completed-whole st (lowestLacking (st .got)) x q
+
+fields-whole : (s : List ℕ) (k p : ℕ) (st : State) (x : Execution) → fieldsFrom s k p st ≡ whole x → x ≡ fieldsTaken s k p st .got
+unfolding fieldsFrom fieldsTaken
+fields-whole s zero p st x e = not-whole e
+fields-whole s (suc k) p st x e = go (ltb p (length s)) (faultAt s p st) e (fields-whole s k (nextAt s p) (after s p st) x)
+  where
+    go : (b : Bool) (n : ℕ)
+        → elim b as (λ _. Parsed) [
+          | false ↦ finish s st
+          | true ↦ elim n as (λ _. Parsed) [ zero ↦ fieldsFrom s k (nextAt s p) (after s p st) | suc m ↦ refused (suc m) (placeOf (suc m) p) ]
+        ] ≡ whole x
+        → (fieldsFrom s k (nextAt s p) (after s p st) ≡ whole x → x ≡ fieldsTaken s k (nextAt s p) (after s p st) .got)
+        → x ≡ elim b as (λ _. State) [ false ↦ st | true ↦ fieldsTaken s k (nextAt s p) (after s p st) ] .got
+    go false n q ih = finish-whole s st x q
+    go true zero q ih = ih q
+    go true (suc n) q ih = not-whole q
+
+pub parse-described : (s : List ℕ) (x : Execution) → parse s ≡ whole x → x ≡ described s
+unfolding parse described
+parse-described s x e = go (ltb maxBytes (length s)) e
+  where
+    go : (b : Bool) → cond b (refused 1 0) (fieldsFrom s (suc (length s)) 0 blank) ≡ whole x → x ≡ fieldsTaken s (suc (length s)) 0 blank .got
+    go true q = not-whole q
+    go false q = fields-whole s (suc (length s)) 0 blank x q
+
+pub rowless-refused : (s : List ℕ) → Rowless (described s) → (x : Execution) → parse s ≡ whole x → ⊥
+rowless-refused s r x e =
+    let q = subst Rowless (sym (parse-described s x e)) r in
+    let w = sound x (promise s x e) .has-row (q .reader) (q .byte) (q .reads) in
+    q .no-row (w .0) (w .1) (w .2) (w .3)

@@ -4,3 +4,4 @@ pub mod OrderedLaws
 pub mod BarringLaws
 pub mod FindLaws
 pub mod SettlingLaws
+pub mod ArrangeLaws

@@ -6,6 +6,7 @@
 --     Ordered x succ pred           succ and pred hold happens-before, by rows and by columns
 --     Barred x succ bars            bars holds the bars: at v * slots + w the mask of R
 --     foundOf                       a rule's answer as an option
+--     Admits, Unbroken              what is known where the buffers are long enough, where 21 to 25 hold
 -- Assumes nothing.
 use mathlib.Core.Path.{_≡_}
 use mathlib.Core.Bool.{Bool, true, false}
@@ -19,11 +20,13 @@ use Rattle.format.specs.Event.{Event}
 use Rattle.format.specs.Execution.{Execution, event}
 use Rattle.sheet.specs.declared.Sheet.{Sheet}
 use Rattle.sheet.specs.Handed.{execution, Laid}
+use Rattle.sheet.specs.Parse.{parse, whole}
 use Rattle.sheet.specs.Promise.{WellFormed}
 use Rattle.sets.specs.Mask.{mem}
 use Rattle.model.specs.Happens.{Tests}
 use Rattle.model.specs.Bar.{bar}
-use Rattle.model.specs.Rules.{Fault, faulty}
+use Rattle.model.specs.Rules.{Fault, faulty, fault}
+use Rattle.model.specs.Judged.{needed}
 use Rattle.judge.specs.declared.Rule.{Rule}
 use Rattle.judge.specs.declared.Rule.the-variants.{Kept, Breach}
 
@@ -83,3 +86,17 @@ pub record Barred (x : Execution) (succ bars : List ℕ) : Type 0 where
 abbrev pub foundOf : Rule → Option Fault
 foundOf Kept = none
 foundOf (Breach n names) = some (faulty n names)
+
+-- what the judge starts from when the sheet is whole and the buffers are long enough
+pub record Admits (s : List ℕ) (x : Sheet) (at scratch order : List ℕ) : Type 0 where
+  pub says : parse s ≡ whole (execution s x at)
+  pub laid : Laid s x at
+  pub scratch-fits : needed (execution s x at) ≤ length scratch
+  pub order-fits : length (execution s x at .events) ≤ length order
+
+-- and when no rule of 21 to 25 is broken
+pub record Unbroken (s : List ℕ) (x : Sheet) (at t succ pred scratch order : List ℕ) : Type 0 where
+  pub admits : Admits s x at scratch order
+  pub given : Given s x at t
+  pub ordered : Ordered (execution s x at) succ pred
+  pub kept : fault (execution s x at) (hbOf succ) ≡ none

@@ -1,0 +1,80 @@
+// The judge on any number of sheets from standard input, each after its length in two bytes; a line for each. For tests; stdin and stdout are
+// the litmus sheets (examples/litmus), made by tests/litmus/make.sh.
+ghost use Prim.Native.Nat.{_≤_};
+ghost use lib.ListN.{length};
+use libc::STDIN_FILENO;
+use libc::STDOUT_FILENO;
+
+// A length of more than 4,097 bytes is taken for 4,097: too long all the same.
+fn length_of(high: u8, low: u8) -> usize
+    ensures { λ r. ⌜ r ≤ 4097 ⌝ }
+{
+    let n = (high as usize) * 256 + low as usize;
+    if n < 4097 { n } else { 4097 }
+}
+
+// How many events stand in an order buffer that was filled with 255: no event has that number.
+fn events_in(order: &[u8]) -> usize
+    ensures { λ r. ⌜ r ≤ length (now (order .entry)) ⌝ }
+{
+    let mut n = 0;
+    while n < order.len() {
+        if order[n] == 255 {
+            return n;
+        }
+        n += 1;
+    }
+    n
+}
+
+// The judge's answer on a sheet, as a line.
+fn told(s: &[u8]) {
+    let mut scratch = [0u8; 8192];
+    let mut order = [255u8; 32];
+    let answer = judge::judge(s, &mut scratch, &mut order);
+    let events = events_in(&order);
+    let mut out = [0u8; 256];
+    let k = report::line(answer, &order[..events], &mut out);
+    io::write_all(STDOUT_FILENO, &out[..k]);
+}
+
+// The next n bytes of the input as a sheet; false where the input ends before.
+fn sheet_of(space: &mut [u8], n: usize) -> bool
+    requires { ⌜ n ≤ length (now space) ⌝ }
+{
+    let part = &mut space[..n];
+    let k = io::read_full(STDIN_FILENO, part);
+    if k < n {
+        return false;
+    }
+    told(part);
+    true
+}
+
+// One sheet: read and reported; false where the input ends.
+fn one(space: &mut [u8]) -> bool
+    requires { ⌜ 4097 ≤ length (now space) ⌝ }
+{
+    let mut head = [0u8; 2];
+    let got = io::read_full(STDIN_FILENO, &mut head);
+    if got < 2 {
+        return false;
+    }
+    let n = length_of(head[0], head[1]);
+    sheet_of(space, n)
+}
+
+fn all(space: &mut [u8])
+    requires { ⌜ 4097 ≤ length (now space) ⌝ }
+{
+    for _ in 0..1000000usize {
+        if !one(space) {
+            return;
+        }
+    }
+}
+
+fn main() {
+    let mut space = [0u8; 4097];
+    all(&mut space);
+}

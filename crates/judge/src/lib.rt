@@ -1,6 +1,7 @@
 // The judge: a sheet, a lent scratch and a lent order buffer become an answer.
 use answer::Names;
 
+mod rules;
 mod table;
 
 // What a rule finds: nothing, or its number and its names.

@@ -1,0 +1,83 @@
+// The rules 21 to 25, each over the whole sheet, and the first that is broken.
+use crate::Rule;
+use crate::table;
+use answer::Names;
+use format::Row;
+use format::field;
+use format::layout;
+use format::tests;
+use sheet::Sheet;
+use sheet::entry;
+ghost use mathlib.Core.Path.{_≡_};
+ghost use mathlib.Core.List.{List};
+ghost use Prim.Native.Nat.{ℕ, _≤_, _<_};
+ghost use lib.ListN.{length};
+ghost use Rattle.format.specs.Limits.{slots};
+ghost use Rattle.format.specs.Execution.{Execution};
+ghost use Rattle.sheet.specs.Handed.{execution};
+ghost use Rattle.model.specs.Rules.{breaks21, fault21, fault22, fault23};
+ghost use Rattle.judge.specs.Tables.{hbOf, foundOf};
+ghost use Rattle.judge.specs.Found.{Rowed, Inside};
+
+// Does the byte that the row's reader saw differ from the byte that its writer wrote?
+fn differs(s: &[u8], x: Sheet, at: &[u16], r: Row) -> bool
+    requires { ⌜ (x .events ≤ length (now at)) × Inside x r ⌝ }
+    ensures { λ b. ⌜ b ≡ breaks21 (execution (now (s .entry)) x (now (at .entry))) r ⌝ }
+{
+    let read = field::value_at(s, entry::place_of(at, r.reader) as u32);
+    let seen = layout::saw(x.head.edition, read, r.address);
+    let write = field::value_at(s, entry::place_of(at, r.writer) as u32);
+    let wrote = layout::wrote(x.head.edition, write, r.address);
+    seen != wrote
+}
+
+fn rule21(s: &[u8], x: Sheet, at: &[u16]) -> Rule
+    requires { ⌜ (x .events ≤ length (now at)) × Rowed (now s) x ⌝ }
+    ensures { λ r. ⌜ foundOf r ≡ fault21 (execution (now (s .entry)) x (now (at .entry))) ⌝ }
+{
+    let rows = x.rows;
+    let mut j: u16 = 0;
+    while j < rows {
+        let r = entry::row_no(s, x, j);
+        let bad = differs(s, x, at, r);
+        if bad {
+            return Rule::Breach(21, Names::Row(r.reader, r.writer, r.address));
+        }
+        j += 1;
+    }
+    Rule::Kept
+}
+
+fn rule22(n: u8, succ: &[u32]) -> Rule
+    requires { ⌜ (length (now succ) ≡ slots) × (n ≤ slots) ⌝ }
+    ensures { λ r. ⌜ ((x : Execution) → length (x .events) ≡ n → foundOf r ≡ fault22 x (hbOf (now (succ .entry)))) ⌝ }
+{
+    let mut e: u8 = 0;
+    while e < n {
+        let i = e as usize;
+        let bad = sets::has(succ[i], i);
+        if bad {
+            return Rule::Breach(22, Names::Event(e));
+        }
+        e += 1;
+    }
+    Rule::Kept
+}
+
+fn rule23(s: &[u8], x: Sheet, succ: &[u32]) -> Rule
+    requires { ⌜ (length (now succ) ≡ slots) × (x .events ≤ slots) × Rowed (now s) x ⌝ }
+    ensures { λ r. ⌜ ((at : List ℕ) → foundOf r ≡ fault23 (execution (now (s .entry)) x at) (hbOf (now (succ .entry)))) ⌝ }
+{
+    let rows = x.rows;
+    let mut j: u16 = 0;
+    while j < rows {
+        let r = entry::row_no(s, x, j);
+        let i = r.reader as usize;
+        let bad = sets::has(succ[i], r.writer as usize);
+        if bad {
+            return Rule::Breach(23, Names::Row(r.reader, r.writer, r.address));
+        }
+        j += 1;
+    }
+    Rule::Kept
+}

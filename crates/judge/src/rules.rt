@@ -12,12 +12,14 @@ ghost use mathlib.Core.Path.{_≡_};
 ghost use mathlib.Core.List.{List};
 ghost use Prim.Native.Nat.{ℕ, _≤_, _<_};
 ghost use lib.ListN.{length};
+ghost use Rattle.basis.specs.Test.{_and_};
 ghost use Rattle.format.specs.Limits.{slots};
 ghost use Rattle.format.specs.Execution.{Execution};
 ghost use Rattle.sheet.specs.Handed.{execution};
-ghost use Rattle.model.specs.Rules.{breaks21, fault21, fault22, fault23};
-ghost use Rattle.judge.specs.Tables.{hbOf, foundOf};
-ghost use Rattle.judge.specs.Found.{Rowed, Inside};
+ghost use Rattle.sets.specs.Mask.{mem};
+ghost use Rattle.model.specs.Rules.{breaks21, fault21, fault22, fault23, fault24};
+ghost use Rattle.judge.specs.Tables.{columns, Given, hbOf, Ordered, foundOf};
+ghost use Rattle.judge.specs.Found.{Inside, Rowed, writesIn, Picked};
 
 // Does the byte that the row's reader saw differ from the byte that its writer wrote?
 fn differs(s: &[u8], x: Sheet, at: &[u16], r: Row) -> bool
@@ -76,6 +78,53 @@ fn rule23(s: &[u8], x: Sheet, succ: &[u32]) -> Rule
         let bad = sets::has(succ[i], r.writer as usize);
         if bad {
             return Rule::Breach(23, Names::Row(r.reader, r.writer, r.address));
+        }
+        j += 1;
+    }
+    Rule::Kept
+}
+
+// Does event v write the byte?
+fn writes_byte(t: &[u8], v: usize, a: u8) -> bool
+    requires { ⌜ (length (now t) ≡ columns) × (v < slots) ⌝ }
+    ensures { λ b. ⌜ b ≡ writesIn (now (t .entry)) v a ⌝ }
+{
+    let e = table::shape(t, v);
+    tests::covers(e, a) & tests::writes(e)
+}
+
+// The least event of a set that writes the byte; 32 where none does.
+fn writer_in(t: &[u8], m: u32, a: u8) -> usize
+    requires { ⌜ length (now t) ≡ columns ⌝ }
+    ensures { λ r. ⌜ Picked (λ v. mem m v and writesIn (now (t .entry)) v a) r ⌝ }
+{
+    let mut left = m;
+    while left != 0 {
+        let v = sets::lowest(left);
+        let hit = writes_byte(t, v, a);
+        if hit {
+            return v;
+        }
+        left = sets::without(left, v);
+    }
+    32
+}
+
+// What lies between W and R is what W happens before and what happens before R: mostly nothing.
+fn rule24(s: &[u8], x: Sheet, t: &[u8], succ: &[u32], pred: &[u32]) -> Rule
+    requires { ⌜ (length (now t) ≡ columns) × (length (now succ) ≡ slots) × (length (now pred) ≡ slots) × (x .events ≤ slots) × Rowed (now s) x ⌝ }
+    ensures { λ r. ⌜ ((at : List ℕ) → Given (now (s .entry)) x at (now (t .entry)) → Ordered (execution (now (s .entry)) x at) (now (succ .entry)) (now (pred .entry)) → foundOf r ≡ fault24 (execution (now (s .entry)) x at) (hbOf (now (succ .entry)))) ⌝ }
+{
+    let rows = x.rows;
+    let mut j: u16 = 0;
+    while j < rows {
+        let r = entry::row_no(s, x, j);
+        let w = r.writer as usize;
+        let i = r.reader as usize;
+        let v = writer_in(t, succ[w] & pred[i], r.address);
+        if v < 32 {
+            let between = v as u8;
+            return Rule::Breach(24, Names::Between(r.reader, r.writer, between, r.address));
         }
         j += 1;
     }

@@ -6,7 +6,9 @@
 --     Left, left-start, left-hit, left-next, left-end     a loop over the members of a set
 --     writes-at, between-at              what the table says of an event, of 24's test
 --     between-found, between-more, between-none     24's search over the rows, which has come to row j
-use mathlib.Core.Path.{_≡_, refl, sym, ap, _∙_}
+--     counted, rowed                     how many events; the two ends of each row are events
+--     first21 .. first25                 the first rule that is broken
+use mathlib.Core.Path.{_≡_, refl, sym, ap, _∙_, subst}
 use mathlib.Core.Bool.{Bool, true, false, not, _&&_}
 use mathlib.Core.Logic.{_⊎_, inl, inr, ⊎-elim}
 use mathlib.Core.List.{List}
@@ -16,7 +18,7 @@ use native.Mathlib.Omega.{arith}
 use lib.Bits.{bitAnd}
 use lib.Dec.{T, eqb}
 use lib.ListN.{length, getD, drop}
-use Rattle.basis.specs.Test.{_and_, non, find, across, from}
+use Rattle.basis.specs.Test.{_and_, non, find, _else_, across, from}
 use Rattle.basis.proofs.TestLaws.{none-mapped}
 use Rattle.basis.proofs.LoopLaws.{true-T, and-holds, and-both, find-none-left, find-found, find-more}
 use Rattle.format.specs.Limits.{slots}
@@ -34,12 +36,12 @@ use Rattle.sets.specs.Mask.{mem, Has, remove, Lowest}
 use Rattle.sets.proofs.BoolLaws.{not-both-ways, false-of, and-parts}
 use Rattle.sets.proofs.MaskLaws.{mem-and, mem-empty, mem-lt, remove-le, remove-old, remove-cases}
 use Rattle.model.specs.Events.{numbers}
-use Rattle.model.specs.Rules.{breaks21, breaks22, breaks23, breaks24, faulty, fault21, fault22, fault23, fault24}
-use Rattle.model.proofs.Sound.{sound}
-use Rattle.model.proofs.HappensLaws.{happens-inside}
+use Rattle.model.specs.Rules.{breaks21, breaks22, breaks23, breaks24, Fault, faulty, fault21, fault22, fault23, fault24, fault25, fault}
+use Rattle.model.proofs.Sound.{Sound, sound, getD-mem}
+use Rattle.model.proofs.HappensLaws.{reader-inside, writer-inside, happens-inside}
 use Rattle.model.proofs.RulesLaws.{test24}
 use Rattle.judge.specs.Tables.{shapeIn, Entry, Tabled, Given, hbOf, Ordered}
-use Rattle.judge.specs.Found.{Inside, writesIn, Picked}
+use Rattle.judge.specs.Found.{Inside, Rowed, writesIn, Picked}
 use Rattle.judge.proofs.FindLaws.{mapped-some, find-least, find-no, across-found, across-more, across-none}
 
 pub not-non : (b : Bool) → not b ≡ non b
@@ -182,13 +184,16 @@ turned false true true = refl
 turned false true false = refl
 turned false false r = refl
 
+pub counted : (s : List ℕ) (x : Sheet) (at t : List ℕ) → Given s x at t → length (execution s x at .events) ≡ x .events
+counted s x at t g = let l = g .laid in let z = l .size in let f = l .few in events-count s (x .head .edition) (x .events) at (omega arith)
+
 module _ (s : List ℕ) (x : Sheet) (at t succ pred : List ℕ) (g : Given s x at t) (o : Ordered (execution s x at) succ pred) where
   -- the events that W happens before and that happen before R
   abbrev inner : Row → ℕ
   inner r = bitAnd (getD succ (r .writer) 0) (getD pred (r .reader) 0)
 
   count : length (execution s x at .events) ≡ x .events
-  count = let l = g .laid in let z = l .size in let f = l .few in events-count s (x .head .edition) (x .events) at (omega arith)
+  count = counted s x at t g
 
   between-at : (r : Row) (d : ℕ) → d < x .events
       → breaks24 (execution s x at) (hbOf succ) r d ≡ (mem (inner r) d and writesIn t d (r .address))
@@ -242,3 +247,36 @@ module _ (s : List ℕ) (x : Sheet) (at t succ pred : List ℕ) (g : Given s x a
         none24 (execution s x at) (hbOf succ)
         (across-none (test24 (execution s x at) (hbOf succ)) (rowsIn s x) (numbers (execution s x at)) j noRow e
         (rw (rows-count s (x .head .edition) (x .«rows_at») (x .rows)) h))
+
+-- ---- all of them
+
+pub rowed : (s : List ℕ) (x : Sheet) (at t : List ℕ) → Given s x at t → Rowed s x
+rowed s x at t g j h =
+    let so = sound (execution s x at) (g .well) in
+    let k = counted s x at t g in
+    let c = rows-count s (x .head .edition) (x .«rows_at») (x .rows) in
+    let m = getD-mem noRow (rowsIn s x) j (omega arith) in
+    let i : Inside x (getD (rowsIn s x) j noRow) =
+    record { reader = rw k at (reader-inside (execution s x at) so _ m); writer = rw k at (writer-inside (execution s x at) so _ m) } in
+    subst (Inside x) (row-at s (x .head .edition) (x .«rows_at») (x .rows) j h) i
+
+module _ (x : Execution) (hb : ℕ → ℕ → Bool) where
+  pub first21 : (f : Fault) → some f ≡ fault21 x → some f ≡ fault x hb
+  unfolding fault _else_
+  first21 f a = rw (← a)
+
+  pub first22 : (f : Fault) → none ≡ fault21 x → some f ≡ fault22 x hb → some f ≡ fault x hb
+  unfolding fault _else_
+  first22 f a b = rw (← a, ← b)
+
+  pub first23 : (f : Fault) → none ≡ fault21 x → none ≡ fault22 x hb → some f ≡ fault23 x hb → some f ≡ fault x hb
+  unfolding fault _else_
+  first23 f a b c = rw (← a, ← b, ← c)
+
+  pub first24 : (f : Fault) → none ≡ fault21 x → none ≡ fault22 x hb → none ≡ fault23 x hb → some f ≡ fault24 x hb → some f ≡ fault x hb
+  unfolding fault _else_
+  first24 f a b c d = rw (← a, ← b, ← c, ← d)
+
+  pub first25 : (o : Option Fault) → none ≡ fault21 x → none ≡ fault22 x hb → none ≡ fault23 x hb → none ≡ fault24 x hb → o ≡ fault25 x → o ≡ fault x hb
+  unfolding fault _else_
+  first25 o a b c d e = rw (← a, ← b, ← c, ← d) e

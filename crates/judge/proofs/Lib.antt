@@ -1,7 +1,10 @@
 pub mod TableLaws
 pub mod BeforeLaws
 pub mod OrderedLaws
-pub mod BarringLaws
 pub mod FindLaws
+pub mod RuleLaws
+pub mod TornLaws
+pub mod BarringLaws
 pub mod SettlingLaws
 pub mod ArrangeLaws
+pub mod JudgeLaws

@@ -10,13 +10,13 @@
 --     first21 .. first25                 the first rule that is broken
 use mathlib.Core.Path.{_≡_, refl, sym, ap, _∙_, subst}
 use mathlib.Core.Bool.{Bool, true, false, not, _&&_}
-use mathlib.Core.Logic.{_⊎_, inl, inr, ⊎-elim}
+use mathlib.Core.Logic.{⊎-elim}
 use mathlib.Core.List.{List}
 use mathlib.Core.Option.{Option, none, some}
 use Prim.Native.Nat.{ℕ, _+_, _^_, _≤_, _<_}
 use native.Mathlib.Omega.{arith}
 use lib.Bits.{bitAnd}
-use lib.Dec.{T, eqb}
+use lib.Dec.{eqb}
 use lib.ListN.{length, getD, drop}
 use Rattle.basis.specs.Test.{_and_, non, find, _else_, across, from}
 use Rattle.basis.proofs.TestLaws.{none-mapped}
@@ -28,7 +28,7 @@ use Rattle.format.specs.declared.Row.{Row}
 use Rattle.format.specs.Event.{Event, writesAt, saw, wrote}
 use Rattle.format.proofs.EventLaws.{writesAt-one}
 use Rattle.format.specs.Execution.{Execution, event, noRow}
-use Rattle.answer.specs.declared.Names.the-variants.{Row as OfRow, Event as OfEvent, Between, Torn}
+use Rattle.answer.specs.declared.Names.the-variants.{Row as OfRow, Event as OfEvent, Between}
 use Rattle.sheet.specs.declared.Sheet.{Sheet}
 use Rattle.sheet.specs.Handed.{eventAt, rowsIn, rowNo, execution}
 use Rattle.sheet.proofs.HandedLaws.{events-count, event-at, rows-count, row-at}
@@ -37,10 +37,10 @@ use Rattle.sets.proofs.BoolLaws.{not-both-ways, false-of, and-parts}
 use Rattle.sets.proofs.MaskLaws.{mem-and, mem-empty, mem-lt, remove-le, remove-old, remove-cases}
 use Rattle.model.specs.Events.{numbers}
 use Rattle.model.specs.Rules.{breaks21, breaks22, breaks23, breaks24, Fault, faulty, fault21, fault22, fault23, fault24, fault25, fault}
-use Rattle.model.proofs.Sound.{Sound, sound, getD-mem}
+use Rattle.model.proofs.Sound.{sound, getD-mem}
 use Rattle.model.proofs.HappensLaws.{reader-inside, writer-inside, happens-inside}
 use Rattle.model.proofs.RulesLaws.{test24}
-use Rattle.judge.specs.Tables.{shapeIn, Entry, Tabled, Given, hbOf, Ordered}
+use Rattle.judge.specs.Tables.{shapeIn, Tabled, Given, hbOf, Ordered}
 use Rattle.judge.specs.Found.{Inside, Rowed, writesIn, Picked}
 use Rattle.judge.proofs.FindLaws.{mapped-some, find-least, find-no, across-found, across-more, across-none}
 

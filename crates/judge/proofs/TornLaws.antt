@@ -6,15 +6,15 @@
 --     source-inside, torn-is                  sources are events; what is found is 25's
 use mathlib.Core.Path.{_≡_, refl, sym, ap, _∙_, subst}
 use mathlib.Core.Bool.{Bool, true, false, not, _&&_, _||_}
-use mathlib.Core.Logic.{_⊎_, inl, inr, ⊎-elim}
+use mathlib.Core.Logic.{⊎-elim}
 use mathlib.Core.List.{List, [], _∷_, _++_, List·Memᴰ}
-use mathlib.Core.Option.{Option, none, some}
-use Prim.Native.Nat.{ℕ, suc, _+_, _%_, _^_, _≤_, _<_}
+use mathlib.Core.Option.{none, some}
+use Prim.Native.Nat.{ℕ, _+_, _%_, _^_, _≤_, _<_}
 use native.Mathlib.Omega.{arith}
 use native.Mathlib.Nat.{mod-eq-of-lt, zero-add}
 use native.Mathlib.Numerals.{add-one}
 use native.Mathlib.Decide.{ℕ-discrete}
-use borrow.Author.Tests.{eq-eqb, ne-eqb, eqb-true, lt-ltb, le-ltb, ltb-true}
+use borrow.Author.Tests.{eq-eqb, ne-eqb, eqb-true, lt-ltb, ltb-true}
 use lib.Dec.{T, eqb, ltb, eqb→eq}
 use lib.ListN.{length, getD, set, take, drop, replicate, length-set, getD-replicate}
 use lib.Seq.{take-suc, take-all, getD-set-same, getD-set-other}
@@ -26,7 +26,7 @@ use Rattle.format.specs.Limits.{slots}
 use Rattle.format.specs.declared.Shape.{Shape}
 use Rattle.format.specs.declared.Row.{Row}
 use Rattle.format.specs.Shape.{tearFree, covers, equal}
-use Rattle.format.specs.Event.{Access, Event, shapeAt, readsAt, writesAt}
+use Rattle.format.specs.Event.{Access, Event, shapeAt}
 use Rattle.format.specs.Execution.{Execution, event, noRow}
 use Rattle.format.proofs.EventLaws.{one, access-hit, access-miss, covers-nothing}
 use Rattle.answer.specs.declared.Names.the-variants.{Torn}
@@ -35,14 +35,14 @@ use Rattle.sheet.specs.Handed.{rowsIn, rowNo, execution}
 use Rattle.sheet.proofs.HandedLaws.{rows-count, row-at}
 use Rattle.sets.specs.Mask.{mem, Has, insert, remove, Lowest}
 use Rattle.sets.proofs.BoolLaws.{by-bool, bool-ext, not-both-ways, false-of, eqb-self}
-use Rattle.sets.proofs.MaskLaws.{mem-insert, mem-remove, mem-empty, mem-lt, remove-le, remove-old, remove-cases, at-slot}
+use Rattle.sets.proofs.MaskLaws.{mem-insert, mem-remove, mem-empty, mem-lt, remove-le, remove-old, remove-cases}
 use Rattle.model.specs.Events.{numbers, atRow, ofReader, ofWriter}
-use Rattle.model.specs.Rules.{untorn, untornFrom, breaks25, Fault, faulty, fault25}
+use Rattle.model.specs.Rules.{untorn, untornFrom, breaks25, faulty, fault25}
 use Rattle.model.proofs.ShapeLaws.{equal-self}
 use Rattle.model.proofs.EventsLaws.{reads-covers, writes-covers}
 use Rattle.model.proofs.Sound.{Sound, sound, mem-getD}
 use Rattle.model.proofs.HappensLaws.{reader-inside, writer-inside}
-use Rattle.judge.specs.Tables.{shapeIn, Entry, Tabled, Given}
+use Rattle.judge.specs.Tables.{shapeIn, Given}
 use Rattle.judge.specs.Found.{Inside, Rowed, untornIn, namesIn, With, Sources, twoOf, tornOf}
 use Rattle.judge.proofs.FindLaws.{mapped-some, across-found, across-more, across-none, least-pair, no-pair, find-same, any-same, any-snoc}
 use Rattle.judge.proofs.RuleLaws.{amp-and, counted}

@@ -75,7 +75,8 @@ fn rule23(s: &[u8], x: Sheet, succ: &[u32]) -> Rule
     while j < rows {
         let r = entry::row_no(s, x, j);
         let i = r.reader as usize;
-        let bad = sets::has(succ[i], r.writer as usize);
+        let w = r.writer as usize;
+        let bad = sets::has(succ[i], w);
         if bad {
             return Rule::Breach(23, Names::Row(r.reader, r.writer, r.address));
         }

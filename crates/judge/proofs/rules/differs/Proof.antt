@@ -1,9 +1,5 @@
 -- `judge::rules::differs` meets its contract: both events are the sheet's. Assumes nothing.
-use mathlib.Core.Path.{_≡_, refl, sym, ap, _∙_}
 use denote.Ref.{now}
-use native.Mathlib.Omega.{arith}
-use Rattle.format.specs.Event.{saw, wrote}
-use Rattle.format.specs.Layout.{eventOf}
 use Rattle.judge.proofs.RuleLaws.{differs-at}
 use borrow.Author.Needs.{needs}
 use Rattle.judge.proofs.rules.differs.Statement.{statement}

@@ -1,9 +1,7 @@
 -- `judge::rules::first_broken` meets its contract: each rule's search, where those before it found nothing. Assumes nothing.
-use mathlib.Core.Path.{_≡_, refl, sym, ap, _∙_}
 use denote.Ref.{now}
 use native.Mathlib.Omega.{arith}
 use Rattle.sheet.specs.Handed.{execution}
-use Rattle.sheet.proofs.HandedLaws.{events-count}
 use Rattle.judge.specs.Tables.{hbOf}
 use Rattle.judge.proofs.RuleLaws.{rowed, counted, first21, first22, first23, first24, first25}
 use borrow.Author.Needs.{needs}

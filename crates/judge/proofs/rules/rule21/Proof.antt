@@ -1,9 +1,9 @@
 -- `judge::rules::rule21` meets its contract. The invariant: the search finds what it finds from row j on. The measure is what is left. Assumes nothing.
-use mathlib.Core.Path.{_≡_, refl, sym, ap, _∙_}
-use Prim.Native.Nat.{_-_, _≤_, _<_}
+use mathlib.Core.Path.{_≡_, refl, sym, _∙_}
+use Prim.Native.Nat.{_-_, _≤_}
 use denote.Ref.{now}
 use native.Mathlib.Omega.{arith}
-use lib.ListN.{length, drop}
+use lib.ListN.{drop}
 use Rattle.basis.specs.Test.{find}
 use Rattle.sheet.specs.Handed.{rowsIn, execution}
 use Rattle.model.specs.Rules.{breaks21}

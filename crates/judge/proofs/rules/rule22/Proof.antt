@@ -1,9 +1,9 @@
 -- `judge::rules::rule22` meets its contract. The invariant: the search finds what it finds from event e on. The measure is what is left. Assumes nothing.
-use mathlib.Core.Path.{_≡_, refl, sym, ap, _∙_}
-use Prim.Native.Nat.{_-_, _≤_, _<_}
+use mathlib.Core.Path.{_≡_, refl, sym, _∙_}
+use Prim.Native.Nat.{_-_, _≤_}
 use denote.Ref.{now}
 use native.Mathlib.Omega.{arith}
-use lib.ListN.{length, drop, getD}
+use lib.ListN.{drop, getD}
 use Rattle.basis.specs.Test.{find, from}
 use Rattle.sets.specs.Mask.{mem}
 use Rattle.sets.proofs.MaskLaws.{at-slot}

@@ -1,9 +1,9 @@
 -- `judge::rules::rule23` meets its contract. The invariant: the search finds what it finds from row j on. The measure is what is left. Assumes nothing.
-use mathlib.Core.Path.{_≡_, refl, sym, ap, _∙_}
-use Prim.Native.Nat.{_-_, _≤_, _<_}
+use mathlib.Core.Path.{_≡_, refl, sym, _∙_}
+use Prim.Native.Nat.{_-_, _≤_}
 use denote.Ref.{now}
 use native.Mathlib.Omega.{arith}
-use lib.ListN.{length, drop, getD}
+use lib.ListN.{drop, getD}
 use Rattle.basis.specs.Test.{find}
 use Rattle.sheet.specs.Handed.{rowsIn, execution}
 use Rattle.sets.specs.Mask.{mem}
@@ -22,35 +22,35 @@ Inv-loop s x succ rows j₀ j = (j ≤ x .rows) × (find (breaks23 (hbOf succ)) 
 abbrev μ-loop : tie.MeasureT-loop
 μ-loop s x succ rows j₀ j = x .rows - j
 
--- src/rules.rt:73:5
+-- src/rules.rt:75:5
 loop-holds : tie.Need-loop-holds Inv-loop μ-loop
 loop-holds c = (omega arith, refl)
 
--- src/rules.rt:74:13
+-- src/rules.rt:76:13
 row-no-requires : tie.Need-row-no-requires Inv-loop μ-loop
 row-no-requires c κs = search needs
 
--- src/rules.rt:75:17
+-- src/rules.rt:77:17
 cast-i : tie.Need-cast-i Inv-loop μ-loop
 cast-i c = search needs
 
--- src/rules.rt:76:29
+-- src/rules.rt:78:17
+cast-w : tie.Need-cast-w Inv-loop μ-loop
+cast-w c = search needs
+
+-- src/rules.rt:79:29
 mul-has : tie.Need-mul-has Inv-loop μ-loop
 mul-has c = search needs
 
--- src/rules.rt:76:29
+-- src/rules.rt:79:29
 shared-slice-read-has : tie.Need-shared-slice-read-has Inv-loop μ-loop
-shared-slice-read-has c = let i : Inside (c .before .before .before .before .before .before .before .args .x) (c .before .before .row-no .result) = rw (c .before .before .row-no .ensures) (c .before .before .before .before .before .before .before .pre .2 (c .before .before .before .before .loop .j) (c .before .before .before .loop-test .taken)) in omega arith
+shared-slice-read-has c = let i : Inside (c .before .before .before .before .before .before .before .before .args .x) (c .before .before .before .row-no .result) = rw (c .before .before .before .row-no .ensures) (c .before .before .before .before .before .before .before .before .pre .2 (c .before .before .before .before .before .loop .j) (c .before .before .before .before .loop-test .taken)) in omega arith
 
--- src/rules.rt:76:38
-cast-has : tie.Need-cast-has Inv-loop μ-loop
-cast-has c = search needs
-
--- src/rules.rt:76:13
+-- src/rules.rt:79:13
 has-requires : tie.Need-has-requires Inv-loop μ-loop
 has-requires c κs = search needs
 
--- src/rules.rt:78:13
+-- src/rules.rt:81:13
 returns : tie.Need-returns Inv-loop μ-loop
 unfolding breaks23
 returns c = let i : Inside (c .before .before .before .before .before .before .before .before .before .before .args .x) (c .before .before .before .before .before .row-no .result) = rw (c .before .before .before .before .before .row-no .ensures) (c .before .before .before .before .before .before .before .before .before .before .pre .2 (c .before .before .before .before .before .before .before .loop .j) (c .before .before .before .before .before .before .loop-test .taken)) in
@@ -58,15 +58,15 @@ returns c = let i : Inside (c .before .before .before .before .before .before .b
     (rows-found (now (c .before .before .before .before .before .before .before .before .before .before .args .s)) (c .before .before .before .before .before .before .before .before .before .before .args .x) (breaks23 (hbOf (now (c .before .before .before .before .before .before .before .before .before .before .args .succ)))) (c .before .before .before .before .before .before .before .loop .j) (c .before .before .before .before .before .before .before .loop .inv .1) (c .before .before .before .before .before .before .loop-test .taken) (c .before .before .before .before .before .row-no .result) (c .before .before .before .before .before .row-no .ensures)
     (sym (at-slot (mem (getD (now (c .before .before .before .before .before .before .before .before .before .before .args .succ)) (c .before .before .before .before .before .row-no .result .reader) 0)) (c .before .before .before .before .before .row-no .result .writer) (omega arith)) ∙ sym (c .before .has .ensures) ∙ c .if1 .taken))
 
--- src/rules.rt:80:9
+-- src/rules.rt:83:9
 add-j : tie.Need-add-j Inv-loop μ-loop
 add-j c = omega arith
 
--- src/rules.rt:73:5
+-- src/rules.rt:75:5
 loop-less : tie.Need-loop-less Inv-loop μ-loop
 loop-less c = omega arith
 
--- src/rules.rt:73:5
+-- src/rules.rt:75:5
 loop-again : tie.Need-loop-again Inv-loop μ-loop
 unfolding breaks23
 loop-again c = let i : Inside (c .before .before .before .before .before .before .before .before .before .before .args .x) (c .before .before .before .before .before .row-no .result) = rw (c .before .before .before .before .before .row-no .ensures) (c .before .before .before .before .before .before .before .before .before .before .pre .2 (c .before .before .before .before .before .before .before .loop .j) (c .before .before .before .before .before .before .loop-test .taken)) in (
@@ -75,7 +75,7 @@ loop-again c = let i : Inside (c .before .before .before .before .before .before
       (sym (at-slot (mem (getD (now (c .before .before .before .before .before .before .before .before .before .before .args .succ)) (c .before .before .before .before .before .row-no .result .reader) 0)) (c .before .before .before .before .before .row-no .result .writer) (omega arith)) ∙ sym (c .before .has .ensures) ∙ c .if1 .left),
 )
 
--- src/rules.rt:67:1
+-- src/rules.rt:69:1
 returns-2 : tie.Need-returns-2 Inv-loop μ-loop
 returns-2 c = λ at. none23 (execution (now (c .before .before .before .before .args .s)) (c .before .before .before .before .args .x) at) (hbOf (now (c .before .before .before .before .args .succ)))
     (rows-none (now (c .before .before .before .before .args .s)) (c .before .before .before .before .args .x) (breaks23 (hbOf (now (c .before .before .before .before .args .succ)))) (c .before .loop .j) (c .before .loop .inv .1) (c .loop-test .left))
@@ -89,9 +89,9 @@ rule23-spec =
     loop-holds
     row-no-requires
     cast-i
+    cast-w
     mul-has
     shared-slice-read-has
-    cast-has
     has-requires
     returns
     add-j

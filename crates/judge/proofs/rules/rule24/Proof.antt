@@ -1,10 +1,10 @@
 -- `judge::rules::rule24` meets its contract. The invariant: the search finds what it finds from row j on. The measure is what is left. Assumes nothing.
-use mathlib.Core.Path.{_≡_, refl, sym, ap, _∙_}
+use mathlib.Core.Path.{_≡_, refl}
 use mathlib.Core.List.{List}
-use Prim.Native.Nat.{ℕ, _-_, _≤_, _<_}
+use Prim.Native.Nat.{ℕ, _-_, _≤_}
 use denote.Ref.{now}
 use native.Mathlib.Omega.{arith}
-use lib.ListN.{length, drop, getD}
+use lib.ListN.{drop}
 use Rattle.basis.specs.Test.{find, across}
 use Rattle.sheet.specs.Handed.{rowsIn, execution}
 use Rattle.model.specs.Events.{numbers}

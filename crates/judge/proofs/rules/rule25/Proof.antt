@@ -1,5 +1,5 @@
 -- `judge::rules::rule25` meets its contract: the sources are gathered, and the lowest reader with two is found. Assumes nothing.
-use mathlib.Core.Path.{_≡_, refl, sym, ap, _∙_}
+use mathlib.Core.Path.{_∙_}
 use denote.Ref.{now}
 use Rattle.judge.proofs.TornLaws.{source-inside, torn-is}
 use borrow.Author.Needs.{needs}

@@ -1,9 +1,9 @@
 -- `judge::rules::torn` meets its contract. The invariant: the search finds what it finds from reader e on. The measure is what is left. Assumes nothing.
-use mathlib.Core.Path.{_≡_, refl, sym, ap, _∙_, subst}
-use Prim.Native.Nat.{ℕ, _-_, _%_, _≤_, _<_}
+use mathlib.Core.Path.{_≡_, refl, subst}
+use Prim.Native.Nat.{_-_, _%_, _≤_}
 use denote.Ref.{now}
 use native.Mathlib.Omega.{arith}
-use lib.ListN.{length, drop, getD}
+use lib.ListN.{drop, getD}
 use Rattle.basis.specs.Test.{find, across, from}
 use Rattle.sets.specs.Mask.{slots, remove, Lowest}
 use Rattle.judge.specs.Found.{twoOf}

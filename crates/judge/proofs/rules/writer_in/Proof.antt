@@ -1,11 +1,10 @@
 -- `judge::rules::writer_in` meets its contract: `left` has the members of which nothing is known yet. The measure is `left`, which gets smaller as a number.
 -- Assumes nothing.
-use mathlib.Core.Path.{_≡_, refl, sym, ap, _∙_, subst}
-use Prim.Native.Nat.{ℕ, _%_}
+use mathlib.Core.Path.{_≡_, sym, ap, _∙_, subst}
 use denote.Ref.{now}
 use native.Mathlib.Nat.{mod-eq-of-lt}
 use native.Mathlib.Omega.{arith}
-use Rattle.sets.specs.Mask.{slots, remove}
+use Rattle.sets.specs.Mask.{remove}
 use Rattle.sets.proofs.MaskLaws.{remove-lt}
 use Rattle.judge.specs.Found.{writesIn}
 use Rattle.judge.proofs.RuleLaws.{Left, left-start, left-lowest, left-hit, left-next, left-end}

@@ -1,8 +1,5 @@
 -- `judge::rules::writes_byte` meets its contract. Assumes nothing.
-use mathlib.Core.Path.{_≡_, refl, sym, ap, _∙_}
 use denote.Ref.{now}
-use native.Mathlib.Omega.{arith}
-use Rattle.judge.specs.Found.{writesIn}
 use Rattle.judge.proofs.RuleLaws.{writes-both}
 use borrow.Author.Needs.{needs}
 use Rattle.judge.proofs.rules.writes_byte.Statement.{statement}

@@ -9,9 +9,8 @@ use mathlib.Core.List.{List}
 use mathlib.Core.Option.{Option, none, some}
 use Prim.Native.Nat.{ℕ, _-_, _<_, _≤_, min}
 use native.Mathlib.Omega.{arith}
-use borrow.Author.Tests.{lt-ltb, le-ltb, ltb-true, ltb-false}
-use lib.Dec.{ltb}
-use lib.ListN.{length, getD, replicate, getD-replicate, List·getD-eq-default, length-replicate}
+use borrow.Author.Tests.{lt-ltb, le-ltb}
+use lib.ListN.{length}
 use Rattle.format.specs.Execution.{Execution, inits, others}
 use Rattle.sheet.specs.declared.Sheet.{Sheet}
 use Rattle.sheet.specs.Parse.{refused, whole, parse}
@@ -26,7 +25,6 @@ use Rattle.model.specs.Judged.{needed, lent, admitted, JudgedRefused, JudgedBro
 use Rattle.model.proofs.OrderLaws.{inits-others}
 use Rattle.model.proofs.JudgedLaws.{whole-admitted}
 use Rattle.judge.specs.Tables.{Tabled, Given, hbOf, Ordered, Admits, Unbroken}
-use Rattle.judge.specs.Steps.{Blank}
 
 -- a sheet that the reader refuses
 pub refused-sheet : (s scratch order : List ℕ) (n p : ℕ) → parse s ≡ refused n p → JudgedRefused s scratch order n p scratch order
@@ -69,13 +67,13 @@ module _ (s : List ℕ) (x : Sheet) (at scratch order : List ℕ) (h : HandedWho
   pub admits : needed X ≤ length scratch → x .events ≤ length order → Admits s x at scratch order
   admits k l = record { says = h .says; laid = h .laid; scratch-fits = k; order-fits = rw events l }
 
-module _ (s : List ℕ) (x : Sheet) (at t succ pred scratch order : List ℕ) (a : Admits s x at scratch order) (b : Tabled (execution s x at) t) where
-  pub given-of : Given s x at t
-  given-of = record { laid = a .laid; well = promise s (execution s x at) (a .says); tabled = b }
+pub given-of : (s : List ℕ) (x : Sheet) (at t scratch order : List ℕ) → Admits s x at scratch order → Tabled (execution s x at) t → Given s x at t
+given-of s x at t scratch order a b = record { laid = a .laid; well = promise s (execution s x at) (a .says); tabled = b }
 
+module _ (s : List ℕ) (x : Sheet) (at t succ pred scratch order : List ℕ) (a : Admits s x at scratch order) (b : Tabled (execution s x at) t) where
   module _ (o : Ordered (execution s x at) succ pred) where
     pub unbroken-of : none ≡ fault (execution s x at) (hbOf succ) → Unbroken s x at t succ pred scratch order
-    unbroken-of e = record { admits = a; given = given-of; ordered = o; kept = sym e }
+    unbroken-of e = record { admits = a; given = given-of s x at t scratch order a b; ordered = o; kept = sym e }
 
     pub broken-rule : (n : ℕ) (names : Names) (scratch′ : List ℕ) → some (faulty n names) ≡ fault (execution s x at) (hbOf succ)
         → scratch′ ≡ cleared (needed (execution s x at)) scratch → JudgedBroken s scratch order (faulty n names) scratch′ order
@@ -89,14 +87,3 @@ module _ (s : List ℕ) (x : Sheet) (at t succ pred scratch order : List ℕ) (a
           scratch-cleared = c;
           order-kept = refl;
         }
-
--- empty rows
-pub blank-rows : Blank (replicate slots 0)
-blank-rows = record { size = length-replicate {A = ℕ} slots 0; empty = each }
-  where
-    each : (e : ℕ) → getD (replicate slots 0) e 0 ≡ 0
-    each e = go (ltb e slots) refl
-      where
-        go : (b : Bool) → ltb e slots ≡ b → getD (replicate slots 0) e 0 ≡ 0
-        go true p = getD-replicate slots e 0 0 (ltb-true e slots p)
-        go false p = List·getD-eq-default (replicate slots 0) 0 (simp (length-replicate {A = ℕ} slots 0) (ltb-false e slots p))

@@ -1,3 +1,5 @@
+pub mod Outcome
+pub mod Tables
 pub mod ShapeLaws
 pub mod EventsLaws
 pub mod Sound
@@ -9,7 +11,6 @@ pub mod OrderLaws
 pub mod MemoryLaws
 pub mod Serial
 pub mod JudgedLaws
-pub mod Outcome
 pub mod Warshall
 pub mod ClosureLaws
 pub mod SearchLaws

@@ -1,12 +1,13 @@
 -- What is claimed of the answers, for all sheets and buffers. Proved, a line each, in proofs/Demands.antt.
 --     Answered       every sheet has an answer, whatever is lent               Agreement     and it has one
 --     Demand2        what consistent, broken and orderly mean                  Demand3       an orderly execution replays on a plain memory
+--     LitmusRight    the entries of a table, each Judged
 --     NoRowRefused   a read byte without a row is refused                      OneRowEach    what is judged has one row for each read byte
 -- Assumes nothing.
 use mathlib.Core.Path.{_≡_}
 use mathlib.Core.Logic.{_↔_}
 use mathlib.Core.Bool.{Bool}
-use mathlib.Core.List.{List}
+use mathlib.Core.List.{List, _++_, List·Memᴰ}
 use mathlib.Core.Option.{none}
 use Prim.Native.Nat.{ℕ, _≤_}
 use lib.Dec.{T}
@@ -28,6 +29,7 @@ use Rattle.model.specs.Unsettled.{Orderly}
 use Rattle.model.specs.Memory.{Explains}
 use Rattle.model.specs.Judged.{needed, Breaks, Judged}
 use Rattle.model.specs.Described.{described, Rowless}
+use Rattle.model.specs.Litmus.{Entry}
 
 abbrev pub IsRefused : Answer → Type 0
 IsRefused a = (n : ℕ) × (p : ℕ) × (a ≡ Refused n p)
@@ -87,3 +89,12 @@ pub record Rowed (s : List ℕ) : Type 0 where
 abbrev pub OneRowEach : Type 0
 OneRowEach = (s scratch order : List ℕ) (answer : Answer) (scratch′ order′ : List ℕ) → (IsRefused answer → ⊥)
     → Judged s scratch order answer scratch′ order′ → Rowed s
+
+-- For any buffers of the lengths that the entry names, its answer is Judged, with its order in front of the order buffer's rest.
+abbrev pub Right : Entry → Type 0
+Right e = (scratch order : List ℕ) → length scratch ≡ e .room → length order ≡ e .places
+    → (scratch′ : List ℕ) × Judged (e .sheet) scratch order (e .answer) scratch′ (e .order ++ drop (length (e .order)) order)
+
+-- 01: "The (P) entries form a single table, tested against the definitions by one statement"
+abbrev pub LitmusRight : List Entry → Type 0
+LitmusRight table = (e : Entry) → List·Memᴰ e table → Right e

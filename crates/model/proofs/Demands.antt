@@ -23,7 +23,7 @@ use Rattle.model.specs.Rules.{Fault, faulty, fault}
 use Rattle.model.specs.Order.{problem}
 use Rattle.model.specs.Unsettled.{unsettledPair, Orderly}
 use Rattle.model.specs.Judged.{needed, Breaks, settledOf, JudgedConsistent, Judged}
-use Rattle.model.specs.Demands.{IsRefused, IsConsistent, Result, Answered, Agreement, Allowed, Meant, Demand2, Demand3, NoRowRefused, Rowed, OneRowEach}
+use Rattle.model.specs.Demands.{IsRefused, IsConsistent, Result, Answered, Agreement, Allowed, Meant, Demand2, Demand3, NoRowRefused, Rowed, OneRowEach, Reduction, InitsFirst, LowestPair}
 use Rattle.model.proofs.Sound.{Sound, sound}
 use Rattle.model.proofs.UnsettledLaws.{none-orderly, orderly-none}
 use Rattle.model.proofs.Serial.{explains}
@@ -31,6 +31,9 @@ use Rattle.model.proofs.JudgedLaws.{admitted-whole, whole-admitted, mov
 use Rattle.model.proofs.Outcome.{outcome}
 use Rattle.model.proofs.OutcomeLaws.{outcome-judged}
 use Rattle.model.proofs.DescribedLaws.{rowless-refused}
+use Rattle.model.proofs.OrderLaws.{begins}
+use Rattle.model.proofs.FirstLaws.{pair-lowest}
+use Rattle.model.proofs.Single.{one-access, reduced}
 
 sounds : (s : List ℕ) (x : Execution) → parse s ≡ whole x → Sound x
 sounds s x e = sound x (promise s x e)
@@ -127,3 +130,12 @@ one-row-each s scratch order (Broken n names) scratch′ order′ h j =
     rowed s (j .execution) (admitted-whole s (length scratch) (length order) (j .execution) (j .describes) .describes)
 one-row-each s scratch order (Consistent t) scratch′ order′ h j =
     rowed s (j .execution) (admitted-whole s (length scratch) (length order) (j .execution) (j .describes) .describes)
+
+pub reduction : Reduction
+reduction s x hb d = reduced x (one-access x (promise s x d)) (sounds s x d) hb
+
+pub inits-first : InitsFirst
+inits-first s x hb d tests = begins x hb (sounds s x d) tests
+
+pub lowest-pair : LowestPair
+lowest-pair = pair-lowest

@@ -1,5 +1,5 @@
 pub mod Outcome
-pub mod Tables
+pub mod AllEntries
 pub mod ShapeLaws
 pub mod EventsLaws
 pub mod Sound
@@ -19,3 +19,6 @@ pub mod DescribedLaws
 pub mod Demands
 pub mod Single
 pub mod Litmus
+pub mod FirstLaws
+pub mod Fewer
+pub mod AcrossLaws

@@ -1,5 +1,5 @@
 -- The law that makes each entry of the litmus tables a `Judged`. Assumes nothing.
---     entry-judged, litmus-judged, more-judged     what the statements of proofs/Tables.antt say of each entry
+--     entry-judged, litmus-judged, more-judged     what the statements of proofs/AllEntries.antt say of each entry
 use mathlib.Core.Path.{_≡_, sym, subst}
 use mathlib.Core.List.{List, _++_, List·Memᴰ, List·Memᴰ·head, List·Memᴰ·tail, head-eq-of-cons-eq, tail-eq-of-cons-eq}
 use Prim.Native.Nat.{ℕ}
@@ -13,7 +13,7 @@ use Rattle.model.specs.Litmus.{Entry, proved}
 use Rattle.model.specs.Further.{further}
 use Rattle.model.specs.Demands.{Right, LitmusRight}
 use Rattle.model.proofs.Outcome.{Outcome, outcome}
-use Rattle.model.proofs.Tables.{told, comes, stated, litmus, litmus-more}
+use Rattle.model.proofs.AllEntries.{told, comes, stated, litmus, litmus-more}
 use Rattle.model.proofs.Sound.{sound}
 use Rattle.model.proofs.OutcomeLaws.{Says, outcome-judged}
 

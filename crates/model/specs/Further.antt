@@ -1,5 +1,5 @@
 -- More entries in the form of specs/Litmus.antt: those of 01's litmus table that are not marked (P), its "Mistakes that look right", and ours, which
--- see faults in the rules that 01's table does not. Tested by one statement in proofs/Litmus.antt. Assumes nothing.
+-- see faults in the rules that 01's table does not. Tested by one statement in proofs/AllEntries.antt. Assumes nothing.
 --     further     the table
 use mathlib.Core.List.{List, [], _∷_}
 use lib.ListN.{replicate}

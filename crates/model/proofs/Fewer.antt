@@ -3,20 +3,18 @@
 --     still-allowed, still-meets     fewer pairs keep an order that meets the rules, and no rule is broken
 --     still-orderly                  orderly with fewer pairs is orderly with more
 --     fewer-consistent, fewer-orderly     the same of two sheets that differ in pairs alone
-use mathlib.Core.Path.{_≡_, refl, sym, _∙_, ap, subst}
+use mathlib.Core.Path.{_≡_, refl, subst}
 use mathlib.Core.Logic.{_⊎_, inl, inr}
 use mathlib.Core.Bool.{Bool}
 use mathlib.Core.List.{List, List·Memᴰ}
 use mathlib.Core.Option.{none}
 use Prim.Native.Nat.{ℕ}
 use lib.Dec.{T, eqb}
-use lib.ListN.{length}
-use Rattle.basis.specs.Test.{_and_, _or_, non, any, find, across}
+use Rattle.basis.specs.Test.{_and_, _or_, any}
 use Rattle.basis.proofs.TestLaws.{and-elim, and-intro, or-cases, or-left, or-right, non-elim, non-intro, any-elim, any-intro, find-fewer}
-use Rattle.format.specs.declared.Head.{Head}
 use Rattle.format.specs.declared.Row.{Row}
 use Rattle.format.specs.declared.Pair.{Pair}
-use Rattle.format.specs.Execution.{Execution, eventNo, event}
+use Rattle.format.specs.Execution.{Execution, event}
 use Rattle.orders.specs.Order.{Meets}
 use Rattle.orders.proofs.OrderLaws.{meets-fewer}
 use Rattle.model.specs.Events.{numbers, atRow}
@@ -25,7 +23,7 @@ use Rattle.model.specs.Rules.{breaks21, breaks22, breaks23, breaks24, un
 use Rattle.model.specs.Bar.{barA, barB, barC, rowBars, bar}
 use Rattle.model.specs.Order.{problem}
 use Rattle.model.specs.Unsettled.{unsettled, Orderly}
-use Rattle.model.proofs.RulesLaws.{Clean, clean, fault-none, test24}
+use Rattle.model.proofs.RulesLaws.{clean, fault-none, test24}
 use Rattle.model.proofs.BarLaws.{bar-elim, bar-intro}
 
 -- the execution with other pairs
@@ -68,7 +66,7 @@ module _ (x : Execution) (ps : List Pair) (fewer : (p : Pair) → List·Memᴰ p
           c22 = find-fewer (breaks22 hb) (breaks22 hb′) _ (λ a t. below a a t) (c .c22);
           c23 = find-fewer (breaks23 hb) (breaks23 hb′) _ (λ r t. below _ _ t) (c .c23);
           c24 = find-fewer (test24 x hb) (test24 (withPairs x ps) hb′) _
-            (λ p t. let w = and-elim _ _ t in let v = and-elim _ _ (w .1) in and-intro _ _ (w .0) (and-intro _ _ (below _ _ (v .0)) (below _ _ (v .1)))) (c .c24);
+              (λ p t. let w = and-elim _ _ t in let v = and-elim _ _ (w .1) in and-intro _ _ (w .0) (and-intro _ _ (below _ _ (v .0)) (below _ _ (v .1)))) (c .c24);
           c25 = c .c25;
         })
 

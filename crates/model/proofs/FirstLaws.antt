@@ -6,7 +6,7 @@ use mathlib.Core.Path.{_≡_, refl, sym, ap, subst}
 use mathlib.Core.Logic.{_⊎_, inl, inr}
 use mathlib.Core.Bool.{Bool, true, false}
 use mathlib.Core.List.{List, [], _∷_, _++_, List·Memᴰ, List·Memᴰ·head, List·Memᴰ·tail, List·Memᴰ·not-nil, List·Memᴰ·cases-cons, List·Memᴰ·append-cases}
-use mathlib.Core.Option.{Option, none, some}
+use mathlib.Core.Option.{some}
 use Prim.Native.Nat.{ℕ, zero, suc, _≤_, _<_}
 use native.Mathlib.Omega.{arith}
 use lib.Dec.{T}
@@ -123,9 +123,11 @@ module _ (x : Execution) (hb : ℕ → ℕ → Bool) where
   unfolding unsettledPair
   pair-lowest e d h =
       let w = find-least (Then (λ a b. a < b) (λ a b. a < b)) (λ (p : ℕ × ℕ). unsettled x hb (p .0) (p .1)) (across (numbers x) (numbers x)) (e, d)
-      (sorted-across (λ a b. a < b) (λ a b. a < b) (numbers x) (numbers x) sorted-numbers sorted-numbers) h in
-      (w .0, λ e′ d′ t. let i = unsettled-inside x hb e′ d′ t in
-      lowest e′ d′ (w .1 (e′, d′) (across-mem (numbers x) (numbers x) e′ d′ (number-mem x e′ (i .0)) (number-mem x d′ (i .1))) t))
+      (sorted-across (λ a b. a < b) (λ a b. a < b) (numbers x) (numbers x) sorted-numbers sorted-numbers) h in (
+        w .0,
+        λ e′ d′ t. let i = unsettled-inside x hb e′ d′ t in
+            lowest e′ d′ (w .1 (e′, d′) (across-mem (numbers x) (numbers x) e′ d′ (number-mem x e′ (i .0)) (number-mem x d′ (i .1))) t),
+      )
     where
       lowest : (e′ d′ : ℕ) → (_≡_ {A = ℕ × ℕ} (e′, d′) (e, d)) ⊎ Then (λ a b. a < b) (λ a b. a < b) (e, d) (e′, d′) → (e ≤ e′) × (e′ ≡ e → d ≤ d′)
       lowest e′ d′ (inl q) =

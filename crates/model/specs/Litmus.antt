@@ -8,7 +8,7 @@
 -- Assumes nothing.
 use mathlib.Core.List.{List, [], _∷_, _++_}
 use Prim.Native.Nat.{ℕ}
-use lib.ListN.{length, replicate}
+use lib.ListN.{length}
 use Rattle.answer.specs.declared.Names.the-variants.{Row as OfRow, Event as OfEvent, Between, Torn, Nobody}
 use Rattle.answer.specs.declared.Settled.the-variants.{Orderly, Unsettled}
 use Rattle.answer.specs.declared.Answer.{Answer}

@@ -2,19 +2,25 @@
 -- Fewer pairs, fewer steps: happens-before shrinks, and so do broken rules and bars. Assumes nothing.
 --     still-allowed, still-meets     fewer pairs keep an order that meets the rules, and no rule is broken
 --     still-orderly                  orderly with fewer pairs is orderly with more
---     fewer-consistent, fewer-orderly     the same of two sheets that differ in pairs alone
+--     more-pairs                     the claim of specs/Fewer.antt, of two sheets
 use mathlib.Core.Path.{_≡_, refl, subst}
 use mathlib.Core.Logic.{_⊎_, inl, inr}
 use mathlib.Core.Bool.{Bool}
 use mathlib.Core.List.{List, List·Memᴰ}
 use mathlib.Core.Option.{none}
 use Prim.Native.Nat.{ℕ}
+use lib.ListN.{length, take}
 use lib.Dec.{T, eqb}
 use Rattle.basis.specs.Test.{_and_, _or_, any}
 use Rattle.basis.proofs.TestLaws.{and-elim, and-intro, or-cases, or-left, or-right, non-elim, non-intro, any-elim, any-intro, find-fewer}
 use Rattle.format.specs.declared.Row.{Row}
 use Rattle.format.specs.declared.Pair.{Pair}
 use Rattle.format.specs.Execution.{Execution, event}
+use Rattle.sheet.specs.Parse.{whole, parse}
+use Rattle.sheet.proofs.PromiseLaws.{promise}
+use Rattle.answer.specs.declared.Settled.{Settled}
+use Rattle.answer.specs.declared.Settled.the-variants.{Orderly as AllSettled}
+use Rattle.answer.specs.declared.Answer.the-variants.{Consistent}
 use Rattle.orders.specs.Order.{Meets}
 use Rattle.orders.proofs.OrderLaws.{meets-fewer}
 use Rattle.model.specs.Events.{numbers, atRow}
@@ -23,12 +29,20 @@ use Rattle.model.specs.Rules.{breaks21, breaks22, breaks23, breaks24, un
 use Rattle.model.specs.Bar.{barA, barB, barC, rowBars, bar}
 use Rattle.model.specs.Order.{problem}
 use Rattle.model.specs.Unsettled.{unsettled, Orderly}
+use Rattle.model.specs.Fewer.{withPairs, MorePairs}
+use Rattle.model.proofs.Sound.{Sound, sound}
+use Rattle.model.proofs.Outcome.{look, hbTable}
+use Rattle.model.proofs.ClosureLaws.{table-tests}
+use Rattle.model.proofs.JudgedLaws.{Admitted, admitted-whole, same-whole}
+use Rattle.model.proofs.Demands.{demand2}
 use Rattle.model.proofs.RulesLaws.{clean, fault-none, test24}
 use Rattle.model.proofs.BarLaws.{bar-elim, bar-intro}
 
--- the execution with other pairs
-abbrev pub withPairs : Execution → List Pair → Execution
-withPairs x ps = record { head = x .head; events = x .events; rows = x .rows; pairs = ps }
+sounds : (s : List ℕ) (x : Execution) → parse s ≡ whole x → Sound x
+sounds s x d = sound x (promise s x d)
+
+settled-same : (t u : Settled) → Consistent t ≡ Consistent u → t ≡ u
+settled-same t u e = cc
 
 module _ (x : Execution) (ps : List Pair) (fewer : (p : Pair) → List·Memᴰ p ps → List·Memᴰ p (x .pairs)) where
   step-fewer : (a b : ℕ) → T (step (withPairs x ps) a b) → T (step x a b)
@@ -107,3 +121,23 @@ module _ (x : Execution) (ps : List Pair) (fewer : (p : Pair) → List·Memᴰ p
         let u = and-elim _ _ (w .1) in
         let v = and-elim _ _ (u .1) in
         h e d (and-intro _ _ (w .0) (and-intro _ _ (non-intro _ (λ k. non-elim _ (u .0) (below _ _ k))) (and-intro _ _ (non-intro _ (λ k. non-elim _ (v .0) (below _ _ k))) (v .1))))
+
+-- ---- of two sheets
+
+pub more-pairs : MorePairs
+more-pairs s s′ x ps d d′ fewer scratch order t u v answer u′ v′ j k =
+    let hb : ℕ → ℕ → Bool = look (hbTable x) in
+    let hb′ : ℕ → ℕ → Bool = look (hbTable (withPairs x ps)) in
+    let tests = table-tests x (sounds s x d) in
+    let tests′ = table-tests (withPairs x ps) (sounds s′ (withPairs x ps) d′) in
+    let q = same-whole (admitted-whole s (length scratch) (length order) (j .execution) (j .describes) .describes) d in
+    let a = subst (λ (y : Execution). Admitted s (length scratch) (length order) y) q (admitted-whole s (length scratch) (length order) (j .execution) (j .describes)) in
+    let m = demand2 s scratch order (Consistent t) u v x hb d (a .scratch) (a .order) tests j in
+    let n = demand2 s′ scratch order answer u′ v′ (withPairs x ps) hb′ d′ (a .scratch) (a .order) tests′ k in
+    let l = m .consistent .0 (t, refl) in
+    let o = m .first (t, refl) .is in
+    record {
+      consistent = n .consistent .1 (still-allowed x ps fewer hb hb′ tests tests′ (l .0), (take (length (x .events)) v, still-meets x ps fewer hb hb′ tests tests′ _ o));
+      meets = λ f g. still-meets x ps fewer hb f tests g (take (length (x .events)) v) o;
+      orderly = λ e. let r = m .orderly .1 (l, still-orderly x ps fewer hb hb′ tests tests′ (n .orderly .0 e .1)) in settled-same t AllSettled r;
+    }

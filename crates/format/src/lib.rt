@@ -3,6 +3,19 @@ pub mod field;
 pub mod layout;
 pub mod tests;
 
+// The limits of a sheet (specs/Limits.antt), named once for the code too.
+pub const MAX_BYTES: usize = 4096;
+
+pub const MAX_AGENTS: u8 = 8;
+
+pub const MAX_MEMORY: u8 = 64;
+
+pub const MAX_INITS: u8 = 4;
+
+pub const MAX_OTHERS: u8 = 16;
+
+pub const MAX_PAIRS: u16 = 32;
+
 // The shape of an access: all of it but its bytes. tear: 0 may tear, 1 tear-free.
 pub struct Shape {
     pub kind: u8,

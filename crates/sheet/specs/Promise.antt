@@ -1,5 +1,5 @@
 -- What the reader promises of an execution: all that 01, "The sheet", says of a well-formed one. The judge and its theorems use only this.
--- Proved of `parse` in proofs/PromiseLaws.antt (`promise`); laws for those who cite it: proofs/WellLaws.antt.
+-- Proved of `parse` in proofs/PromiseLaws.antt (`promise`); laws for those who cite it, over membership in the lists: crates/model/proofs/Sound.antt.
 --     WellEvent h d                 event d by itself, under the head h
 --     OneRow x e n                  exactly one row for byte n of event e
 --     WellFormed x                  the whole execution

@@ -2,6 +2,10 @@
 use crate::Sheet;
 use crate::entry;
 use format::Head;
+use format::MAX_AGENTS;
+use format::MAX_INITS;
+use format::MAX_MEMORY;
+use format::MAX_OTHERS;
 use format::Pair;
 use format::Row;
 use format::Shape;
@@ -26,7 +30,7 @@ pub(crate) fn within(lo: u8, hi: u8, n: u8) -> bool
 pub(crate) fn head_fits(h: Head) -> bool
     ensures { λ r. ⌜ r ≡ headFits h ⌝ }
 {
-    (h.edition == 1) & (within(1, 8, h.agents) & within(1, 64, h.size))
+    (h.edition == 1) & (within(1, MAX_AGENTS, h.agents) & within(1, MAX_MEMORY, h.size))
 }
 
 fn inside(size: u8, a: Shape) -> bool
@@ -38,7 +42,7 @@ fn inside(size: u8, a: Shape) -> bool
 fn init_formed(agent: u8, a: Shape) -> bool
     ensures { λ r. ⌜ r ≡ initFormed agent a ⌝ }
 {
-    (agent == 0) & ((a.kind == 2) & within(1, 64, a.width))
+    (agent == 0) & ((a.kind == 2) & within(1, MAX_MEMORY, a.width))
 }
 
 // A width of 0 divides nothing, so it is answered before the remainder is taken.
@@ -143,8 +147,8 @@ pub(crate) fn room_for(s: &[u8], x: Sheet, at: &[u16], agent: u8) -> bool
     let inits = x.inits;
     let others = x.events - inits;
     match agent {
-        0 => inits < 4,
-        _ => others < 16,
+        0 => inits < MAX_INITS,
+        _ => others < MAX_OTHERS,
     }
 }
 

@@ -1,6 +1,7 @@
 // The first fault of a field: its refusal's number, 0 for none.
 use crate::Sheet;
 use crate::content;
+use format::MAX_PAIRS;
 use format::field;
 use format::layout;
 ghost use mathlib.Core.Path.{_≡_};
@@ -10,7 +11,7 @@ ghost use Rattle.sheet.specs.Parse.{placeOf, allowed, headFault, eventFa
 ghost use Rattle.sheet.specs.Handed.{eventsIn, rowsIn, pairsIn, execution};
 ghost use Rattle.sheet.specs.Between.{view, Counted};
 
-// A refusal's place, from its number and the place of the field's tag. The one place where a place is made.
+// The place of a refusal of a field, from its number and the place of the tag: made here and nowhere else.
 pub(crate) fn place_of(number: u8, tag: u16) -> u32
     ensures { λ r. ⌜ r ≡ placeOf number tag ⌝ }
 {
@@ -96,7 +97,7 @@ fn pair_fault(s: &[u8], x: Sheet, at: &[u16], v: &[u8]) -> u8
     if !fits {
         return 8;
     }
-    let room = x.pairs < 32;
+    let room = x.pairs < MAX_PAIRS;
     if !room {
         return 9;
     }

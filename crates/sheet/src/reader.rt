@@ -6,6 +6,7 @@ use crate::Sheet;
 use crate::entry;
 use crate::fault;
 use format::Head;
+use format::MAX_BYTES;
 use format::Row;
 use format::Shape;
 use format::field;
@@ -305,7 +306,7 @@ fn refuse(number: u8, place: u32) -> Outcome
 pub fn read(s: &[u8]) -> Outcome
     ensures { λ r. ⌜ Handed (now (s .entry)) r ⌝ }
 {
-    if 4096 < s.len() {
+    if MAX_BYTES < s.len() {
         return refuse(1, 0);
     }
     let mut at = [0u16; 32];

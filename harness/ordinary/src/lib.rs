@@ -4,6 +4,8 @@
 
 #![no_std]
 
+pub mod same;
+
 /// The head's limits and the sheet's, as document 01 gives them.
 const MAX_SHEET: usize = 4096;
 const MAX_INITS: usize = 4;

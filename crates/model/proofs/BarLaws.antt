@@ -1,13 +1,12 @@
 -- The laws of specs/Bar.antt. Assumes nothing.
 --     bar-elim, bar-intro      a bar is a row of R and W that bars V, and back
 --     RowBars, row-bars, bars-row      what a row and V that it bars satisfy, and back
-use mathlib.Core.Path.{_≡_, refl, sym, subst}
-use mathlib.Core.Logic.{_⊎_, inl, inr}
+use mathlib.Core.Path.{_≡_, subst}
 use mathlib.Core.Bool.{Bool}
 use mathlib.Core.List.{List·Memᴰ}
 use Prim.Native.Nat.{ℕ}
 use lib.Dec.{T, eqb, eqb→eq, eqb-refl}
-use Rattle.basis.specs.Test.{_and_, _or_, non, any}
+use Rattle.basis.specs.Test.{_and_, _or_}
 use Rattle.basis.proofs.TestLaws.{and-elim, and-intro, non-elim, non-intro, any-elim, any-intro}
 use Rattle.format.specs.declared.Row.{Row}
 use Rattle.format.specs.Shape.{sc}

@@ -1,14 +1,13 @@
 -- The table of happens-before of proofs/Outcome.antt. Assumes nothing.
 --     table-tests     it tests happens-before
-use mathlib.Core.Path.{_≡_, refl, sym, _∙_, ap, subst, subst⁻¹}
-use mathlib.Core.Logic.{_⊎_, inl, inr, _↔_}
-use mathlib.Core.Bool.{Bool, true, false}
-use mathlib.Core.List.{List, [], _∷_, List·Memᴰ}
+use mathlib.Core.Path.{_≡_, refl, sym, _∙_, ap, subst}
+use mathlib.Core.Bool.{Bool, false}
+use mathlib.Core.List.{List, []}
 use Prim.Native.Nat.{ℕ, zero, suc, _+_, _≤_, _<_}
 use native.Mathlib.Omega.{arith}
-use native.Mathlib.Nat.{eq-or-lt-of-le, suc-add, add-suc, zero-add, add-zero}
+use native.Mathlib.Nat.{suc-add, add-suc, zero-add, add-zero}
 use native.Mathlib.Decide.{decLt}
-use lib.Dec.{T, eqb, ltb}
+use lib.Dec.{T}
 use lib.ListN.{length, getD}
 use Rattle.basis.specs.Test.{_and_, _or_, each, from}
 use Rattle.format.specs.Execution.{Execution}

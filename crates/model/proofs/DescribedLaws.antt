@@ -1,7 +1,7 @@
 -- The laws of specs/Described.antt. Assumes nothing.
 --     parse-described     where a sheet is not refused, it describes what its fields describe
 --     rowless-refused     a sheet with a read byte without a row describes no execution
-use mathlib.Core.Path.{_≡_, refl, sym, _∙_, ap, subst}
+use mathlib.Core.Path.{_≡_, sym, subst}
 use mathlib.Core.Bool.{Bool, true, false, cond}
 use mathlib.Core.List.{List}
 use mathlib.Core.Option.{Option, none, some}
@@ -15,7 +15,6 @@ use Rattle.format.specs.Event.{readsSome}
 use Rattle.format.specs.Execution.{Execution}
 use Rattle.format.specs.Field.{nextAt}
 use Rattle.sheet.specs.Parse.{Parsed, refused, whole, placeOf, State, blank, faultAt, after, lowestLacking, completed, finish, fieldsFrom, parse}
-use Rattle.sheet.specs.Promise.{WellFormed, row}
 use Rattle.sheet.proofs.PromiseLaws.{promise}
 use Rattle.model.specs.Described.{fieldsTaken, described, Rowless}
 use Rattle.model.proofs.Sound.{sound}

@@ -7,20 +7,19 @@
 use mathlib.Core.Path.{_≡_, refl, sym, subst}
 use mathlib.Core.Bool.{Bool, true, false, cond}
 use mathlib.Core.List.{List, [], _∷_, List·Memᴰ, List·Memᴰ·head, List·Memᴰ·tail, List·Memᴰ·not-nil}
-use Prim.Native.Nat.{ℕ, _+_, _≤_, _<_, zero-le}
+use Prim.Native.Nat.{ℕ, _≤_, _<_, zero-le}
 use native.Mathlib.Omega.{arith}
 use native.Mathlib.Nat.{not-suc-le-zero}
 use native.Mathlib.Decide.{decLt}
 use lib.Dec.{T}
-use lib.ListN.{length, getD, List·getD-eq-default}
-use Rattle.basis.specs.Test.{_and_, any, from}
+use lib.ListN.{length, List·getD-eq-default}
+use Rattle.basis.specs.Test.{any}
 use Rattle.basis.proofs.TestLaws.{and-elim, any-elim, any-intro, from-mem, from-elim}
 use Rattle.format.specs.declared.Shape.{Shape}
-use Rattle.format.specs.declared.Row.{Row}
 use Rattle.format.specs.Shape.{reads, writes, covers}
-use Rattle.format.specs.Event.{Access, Event, nothing, nobody, lookup, accessAt, shapeAt, readsAt, writesAt}
+use Rattle.format.specs.Event.{Access, Event, nobody, lookup, accessAt, shapeAt, readsAt, writesAt}
 use Rattle.format.specs.Execution.{Execution, eventNo, event}
-use Rattle.model.specs.Events.{numbers, atRow, anyTwo}
+use Rattle.model.specs.Events.{numbers, anyTwo}
 use Rattle.model.proofs.ShapeLaws.{nothing-covers}
 
 lookup-mem : (l : List Access) (n : ℕ) → T (covers (lookup l n .shape) n) → List·Memᴰ (lookup l n) l

@@ -5,24 +5,24 @@
 --     no-step, init-earliest           nothing happens before an init
 --     tests-unique                     two tests of happens-before are one
 --     closed-tests                     the closed rows of successors of the crate sets are such a test
-use mathlib.Core.Path.{_≡_, refl, sym, ap, _∙_, subst, fun-ext}
+use mathlib.Core.Path.{_≡_, sym, ap, _∙_, subst, fun-ext}
 use mathlib.Core.Logic.{_⊎_, inl, inr, _↔_}
-use mathlib.Core.Bool.{Bool, true, false}
+use mathlib.Core.Bool.{Bool}
 use mathlib.Core.List.{List, List·Memᴰ}
 use Prim.Native.Nat.{ℕ, _-_, _≤_, _<_}
 use native.Mathlib.Omega.{arith}
 use native.Mathlib.Decide.{decLt}
-use lib.Dec.{T, eqb, ltb, ltb→lt, eqb→eq, eqb-refl}
-use lib.ListN.{length, getD, drop}
+use lib.Dec.{T, eqb, ltb→lt, eqb→eq, eqb-refl}
+use lib.ListN.{length, getD}
 use lib.Seq.{getD-drop}
-use Rattle.basis.specs.Test.{_and_, _or_, non, any}
+use Rattle.basis.specs.Test.{_and_, _or_, any}
 use Rattle.basis.proofs.TestLaws.{and-elim, and-intro, or-cases, or-left, or-right, non-elim, any-elim, any-intro, same-test}
 use Rattle.basis.proofs.LoopLaws.{true-T, T-true, false-T}
 use Rattle.format.specs.declared.Row.{Row}
 use Rattle.format.specs.declared.Pair.{Pair}
 use Rattle.format.specs.declared.Shape.{Shape}
 use Rattle.format.specs.Shape.{reads, sc, overlap}
-use Rattle.format.specs.Event.{Access, isInit, readsAt, shapeAt, writesAt}
+use Rattle.format.specs.Event.{isInit, readsAt, shapeAt, writesAt}
 use Rattle.format.specs.Execution.{Execution, event}
 use Rattle.sets.specs.Mask.{mem, Has}
 use Rattle.sets.specs.Closure.{Reach, Closed, step as reach-step, more as reach-more}

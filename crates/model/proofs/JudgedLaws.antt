@@ -3,15 +3,15 @@
 --     moved                              a fact about an execution and a test of its happens-before, with another test
 --     breaks-unique, judged-unique       two results that are Judged for the same inputs are equal
 use mathlib.Core.Path.{_≡_, refl, sym, _∙_, ap, subst}
-use mathlib.Core.Logic.{_⊎_, inl, inr}
+use mathlib.Core.Logic.{inl, inr}
 use mathlib.Core.Bool.{Bool, true, false, cond}
 use mathlib.Core.List.{List, _++_}
-use mathlib.Core.Option.{Option, none, some}
+use mathlib.Core.Option.{none}
 use Prim.Native.Nat.{ℕ, _≤_, _<_}
 use native.Mathlib.Omega.{arith}
-use lib.Dec.{T, ltb, ltb→lt, lt→ltb}
+use lib.Dec.{ltb, ltb→lt, lt→ltb}
 use lib.ListN.{length, take, drop, take-append-drop}
-use Rattle.basis.proofs.LoopLaws.{T-false, true-T, false-T}
+use Rattle.basis.proofs.LoopLaws.{T-false, false-T}
 use Rattle.format.specs.Execution.{Execution}
 use Rattle.sheet.specs.Parse.{Parsed, refused, whole, parse}
 use Rattle.sets.specs.Table.{cleared}
@@ -25,7 +25,7 @@ use Rattle.model.specs.Happens.{Tests}
 use Rattle.model.specs.Rules.{Fault, faulty, fault}
 use Rattle.model.specs.Order.{problem}
 use Rattle.model.specs.Unsettled.{unsettledPair}
-use Rattle.model.specs.Judged.{needed, lent, admitted, Unordered, Breaks, settledOf, JudgedRefused, JudgedBroken, JudgedConsistent, Judged}
+use Rattle.model.specs.Judged.{needed, lent, admitted, Breaks, settledOf, JudgedBroken, JudgedConsistent, Judged}
 use Rattle.model.proofs.HappensLaws.{tests-unique}
 
 -- ---- what is admitted

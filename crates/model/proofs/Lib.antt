@@ -1,3 +1,5 @@
+pub mod Outcome
+pub mod AllEntries
 pub mod ShapeLaws
 pub mod EventsLaws
 pub mod Sound
@@ -9,7 +11,6 @@ pub mod OrderLaws
 pub mod MemoryLaws
 pub mod Serial
 pub mod JudgedLaws
-pub mod Outcome
 pub mod Warshall
 pub mod ClosureLaws
 pub mod SearchLaws
@@ -18,3 +19,6 @@ pub mod DescribedLaws
 pub mod Demands
 pub mod Single
 pub mod Litmus
+pub mod FirstLaws
+pub mod Fewer
+pub mod AcrossLaws

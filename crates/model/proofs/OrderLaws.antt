@@ -4,20 +4,19 @@
 --     inits-others                                     every event is an init or another
 --     meets-length                                     an order that meets the rules has as many entries as there are events
 --     begins                                           `Begins (problem x hb) (inits (x .events))`: what `ordered-first`, `ordered-none` ask for
-use mathlib.Core.Path.{_≡_, refl, sym, _∙_, subst}
+use mathlib.Core.Path.{_≡_, sym, _∙_, subst}
 use mathlib.Core.Logic.{_⊎_, inl, inr}
 use mathlib.Core.Bool.{Bool}
 use mathlib.Core.List.{List, [], _∷_, _++_, List·Memᴰ}
-use Prim.Native.Nat.{ℕ, _+_, _≤_, _<_}
+use Prim.Native.Nat.{ℕ, _+_, _<_}
 use native.Mathlib.Omega.{arith}
 use lib.Dec.{T}
 use lib.ListN.{length}
-use Rattle.basis.specs.Test.{_and_, _or_, non, number}
+use Rattle.basis.specs.Test.{_or_}
 use Rattle.basis.proofs.TestLaws.{and-elim, or-cases}
-use Rattle.basis.proofs.LoopLaws.{number-both, number-le}
+use Rattle.basis.proofs.LoopLaws.{number-both}
 use Rattle.format.specs.declared.Row.{Row}
-use Rattle.format.specs.Shape.{sc}
-use Rattle.format.specs.Event.{Event, isInit}
+use Rattle.format.specs.Event.{isInit}
 use Rattle.format.specs.Execution.{Execution, event, inits, others}
 use Rattle.orders.specs.Order.{In, Precedes, Distinct}
 use Rattle.orders.specs.Inits.{Begins}
@@ -28,7 +27,7 @@ use Rattle.orders.proofs.StepLaws.{same-runs}
 use Rattle.orders.proofs.TrailLaws.{runs-length}
 use Rattle.model.specs.Events.{atRow}
 use Rattle.model.specs.Happens.{rowSyncs, Tests}
-use Rattle.model.specs.Bar.{barA, barB, barC, rowBars, bar}
+use Rattle.model.specs.Bar.{barA, barB, barC}
 use Rattle.model.specs.Order.{problem}
 use Rattle.model.proofs.ShapeLaws.{both-elim}
 use Rattle.model.proofs.Sound.{Sound}

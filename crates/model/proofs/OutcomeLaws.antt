@@ -1,11 +1,11 @@
 -- The answer that proofs/Outcome.antt computes is the one that specs/Judged.antt asks for, for all bytes and all buffers. Assumes nothing.
 --     outcome-judged     it is Judged, with the scratch's needed part cleared and the order in front of the order buffer's rest
 use mathlib.Core.Path.{_≡_, refl, sym, _∙_, ap, subst}
-use mathlib.Core.Logic.{_⊎_, inl, inr}
+use mathlib.Core.Logic.{inl, inr}
 use mathlib.Core.Bool.{Bool}
-use mathlib.Core.List.{List, [], _∷_, _++_}
+use mathlib.Core.List.{List, _++_}
 use mathlib.Core.Option.{Option, none, some}
-use Prim.Native.Nat.{ℕ, _≤_, _<_}
+use Prim.Native.Nat.{ℕ}
 use native.Mathlib.Omega.{arith}
 use lib.ListN.{length, take, drop}
 use lib.Seq.{take-append-seam, drop-append-seam}
@@ -15,16 +15,15 @@ use Rattle.sets.specs.Table.{cleared}
 use Rattle.sets.proofs.TableLaws.{cleared-min}
 use Rattle.orders.specs.Order.{Meets}
 use Rattle.orders.specs.First.{FirstOf}
-use Rattle.answer.specs.declared.Names.the-variants.{Nobody}
 use Rattle.model.specs.Happens.{Tests}
-use Rattle.model.specs.Rules.{Fault, faulty, fault}
+use Rattle.model.specs.Rules.{Fault, fault}
 use Rattle.model.specs.Order.{problem}
 use Rattle.model.specs.Unsettled.{unsettledPair}
 use Rattle.model.specs.Judged.{needed, admitted, Judged}
 use Rattle.model.proofs.Sound.{Sound}
 use Rattle.model.proofs.OrderLaws.{meets-length}
-use Rattle.model.proofs.JudgedLaws.{Admitted, admitted-whole}
-use Rattle.model.proofs.Outcome.{look, hbTable, firstOrder, Outcome, outcomeIs, verdict, outcomeOf, outcome}
+use Rattle.model.proofs.JudgedLaws.{admitted-whole}
+use Rattle.model.proofs.Outcome.{look, hbTable, firstOrder, Outcome, verdict, outcomeOf, outcome}
 use Rattle.model.proofs.ClosureLaws.{table-tests}
 use Rattle.model.proofs.SearchLaws.{Found, first-order}
 

@@ -2,20 +2,20 @@
 --     Clean, clean, fault-none        no rule is broken: none of the five searches finds anything
 --     between-apart                   in 24, V is neither R nor W where 22 holds
 --     fault-21 .. fault-25            the rule that is named, from what the searches come to
-use mathlib.Core.Path.{_≡_, refl, sym, ap, _∙_, subst}
+use mathlib.Core.Path.{_≡_, sym, subst}
 use mathlib.Core.Bool.{Bool}
-use mathlib.Core.List.{List, List·Memᴰ}
-use mathlib.Core.Option.{Option, none, some}
+use mathlib.Core.List.{List}
+use mathlib.Core.Option.{none, some}
 use Prim.Native.Nat.{ℕ, _<_}
 use lib.Dec.{T}
 use lib.ListN.{length}
-use Rattle.basis.specs.Test.{_and_, find, _else_, mapped, across}
+use Rattle.basis.specs.Test.{find, _else_, mapped, across}
 use Rattle.basis.proofs.TestLaws.{and-elim, find-none, else-none, none-else, mapped-none, none-mapped}
 use Rattle.format.specs.declared.Row.{Row}
 use Rattle.format.specs.Execution.{Execution}
 use Rattle.answer.specs.declared.Names.the-variants.{Row as OfRow, Event as OfEvent, Between, Torn}
 use Rattle.model.specs.Events.{numbers}
-use Rattle.model.specs.Rules.{breaks21, breaks22, breaks23, breaks24, breaks25, Fault, faulty, fault21, fault22, fault23, fault24, fault25, fault}
+use Rattle.model.specs.Rules.{breaks21, breaks22, breaks23, breaks24, breaks25, faulty, fault21, fault22, fault23, fault24, fault25, fault}
 use Rattle.model.proofs.EventsLaws.{number-mem}
 
 -- the rules as tests of one entry of a list

@@ -3,8 +3,8 @@
 --     kept-elim, kept-intro      the entries of a list that pass
 --     search-result              what a search comes to, from the events placed so far
 --     first-order                so of all events: the first order that meets the rules, or there is none
-use mathlib.Core.Path.{_≡_, refl, sym, ap, subst}
-use mathlib.Core.Logic.{_⊎_, inl, inr, ⊎-elim, _↔_}
+use mathlib.Core.Path.{_≡_, refl, sym, subst}
+use mathlib.Core.Logic.{_⊎_, inl, inr, ⊎-elim}
 use mathlib.Core.Bool.{Bool, true, false}
 use mathlib.Core.List.{List, [], _∷_, _++_, List·Memᴰ, List·Memᴰ·head, List·Memᴰ·tail, List·Memᴰ·cases-cons, List·Memᴰ·not-nil, Memᴰ·cast}
 use mathlib.Core.Option.{Option, none, some}
@@ -22,7 +22,7 @@ use Rattle.orders.specs.Problem.{Problem}
 use Rattle.orders.specs.Order.{Meets}
 use Rattle.orders.specs.First.{FirstOf}
 use Rattle.orders.specs.Step.{With, Below, Ready, Runs, Dead}
-use Rattle.orders.proofs.StepLaws.{Same, same-sym, same-dead, same-first, dead-here, first-end, first-step}
+use Rattle.orders.proofs.StepLaws.{Same, same-dead, same-first, dead-here, first-end, first-step}
 use Rattle.orders.proofs.InitsLaws.{whole-first, whole-none}
 use Rattle.model.specs.Events.{numbers}
 use Rattle.model.specs.Happens.{Tests}

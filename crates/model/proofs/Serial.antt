@@ -1,20 +1,20 @@
 -- Demand 3: where no rule is broken and no pair is unsettled, an order that meets the rules, run on a plain memory, shows each read what it saw.
 -- The writer of a row happens before its reader, and no other writer of the byte stands between: each such V is settled against W and against
 -- R, and every case is happens-before's, rule 24's or a bar's. Assumes nothing.
-use mathlib.Core.Path.{_≡_, refl, sym, _∙_, ap, subst}
+use mathlib.Core.Path.{_≡_, sym, _∙_, subst}
 use mathlib.Core.Logic.{_⊎_, inl, inr}
 use mathlib.Core.Bool.{Bool}
-use mathlib.Core.List.{List, [], _∷_, _++_, List·Memᴰ}
+use mathlib.Core.List.{List, _∷_, List·Memᴰ}
 use mathlib.Core.Option.{none}
 use Prim.Native.Nat.{ℕ}
 use lib.Dec.{T, eqb, eqb→eq}
-use Rattle.basis.specs.Test.{_and_, _or_, non, across}
+use Rattle.basis.specs.Test.{_or_, across}
 use Rattle.basis.proofs.TestLaws.{decide, and-intro, or-left, or-right, non-intro, find-none, across-mem}
 use Rattle.format.specs.declared.Row.{Row}
 use Rattle.format.specs.Shape.{writes, covers, bothSc}
-use Rattle.format.specs.Event.{shapeAt, readsAt, writesAt, saw, wrote}
+use Rattle.format.specs.Event.{shapeAt, writesAt, saw, wrote}
 use Rattle.format.specs.Execution.{Execution, event}
-use Rattle.orders.specs.Order.{In, Precedes, Distinct, Meets}
+use Rattle.orders.specs.Order.{Precedes, Distinct, Meets}
 use Rattle.model.specs.Events.{numbers, atRow}
 use Rattle.model.specs.Happens.{rowSyncs, one, Tests}
 use Rattle.model.specs.Rules.{breaks21, breaks23, breaks24, fault}
@@ -26,10 +26,10 @@ use Rattle.model.proofs.ShapeLaws.{equal-trans, both-elim, both-intro}
 use Rattle.model.proofs.EventsLaws.{reads-covers, writes-covers, writes-writes, covering-inside, number-mem}
 use Rattle.model.proofs.Sound.{Sound}
 use Rattle.model.proofs.HappensLaws.{row-step}
-use Rattle.model.proofs.RulesLaws.{Clean, clean, test24}
+use Rattle.model.proofs.RulesLaws.{clean, test24}
 use Rattle.model.proofs.BarLaws.{bars-row, bar-intro}
 use Rattle.model.proofs.UnsettledLaws.{settles}
-use Rattle.model.proofs.OrderLaws.{distinct-apart, distinct-loop, precedes-left, precedes-more, precedes-over, in-front}
+use Rattle.model.proofs.OrderLaws.{distinct-apart, distinct-loop, precedes-more, precedes-over, in-front}
 use Rattle.model.proofs.MemoryLaws.{last-writer}
 use Rattle.orders.proofs.OrderLaws.{precedes-in}
 

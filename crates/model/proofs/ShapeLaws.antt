@@ -2,11 +2,10 @@
 --     overlap-sym, equal-sym, equal-trans, equal-self     of ranges               covers-equal     equal ranges cover the same bytes
 --     both-cover                                          two ranges with a byte in common overlap
 --     BothSc, both-elim, both-intro, both-sym             both sc with equal ranges
-use mathlib.Core.Path.{_≡_, refl, sym, subst}
+use mathlib.Core.Path.{subst}
 use Prim.Native.Nat.{ℕ, _+_, _≤_, _<_}
 use native.Mathlib.Omega.{arith}
 use lib.Dec.{T, eqb, ltb, leb, leb→le, ltb→lt, lt→ltb, eqb→eq, eqb-refl}
-use Rattle.basis.specs.Test.{_and_}
 use Rattle.basis.proofs.TestLaws.{and-elim, and-intro}
 use Rattle.format.specs.declared.Shape.{Shape}
 use Rattle.format.specs.Shape.{sc, covers, overlap, equal, bothSc, noShape}

@@ -4,9 +4,9 @@
 --     reads-one, writes-one, two-one             what the lookups say of it
 --     one-syncs, syncs-row, one-init, one-24, one-25, one-bars, one-unsettled, one-meets     sentence by sentence
 --     reduced                                    all of them
-use mathlib.Core.Path.{_≡_, refl, sym, _∙_, ap, subst}
+use mathlib.Core.Path.{_≡_, sym, _∙_, ap, subst}
 use mathlib.Core.Logic.{_⊎_, inl, inr, _↔_}
-use mathlib.Core.Bool.{Bool, true, false}
+use mathlib.Core.Bool.{Bool}
 use mathlib.Core.List.{List, [], _∷_, List·Memᴰ, List·Memᴰ·eq-of-singleton}
 use Prim.Native.Nat.{ℕ, _≤_, _<_}
 use native.Mathlib.Omega.{arith}
@@ -14,7 +14,7 @@ use native.Mathlib.Decide.{decLt}
 use lib.Dec.{T, eqb, ltb, eqb→eq, eqb-refl}
 use lib.ListN.{length}
 use Rattle.basis.specs.Test.{_and_, _or_, non, any}
-use Rattle.basis.proofs.TestLaws.{and-elim, and-intro, or-cases, or-left, or-right, any-elim, any-intro, same-test}
+use Rattle.basis.proofs.TestLaws.{and-elim, and-intro, or-cases, or-right, any-elim, any-intro}
 use Rattle.basis.proofs.LoopLaws.{or-none, T-true}
 use Rattle.format.specs.declared.Shape.{Shape}
 use Rattle.format.specs.declared.Row.{Row}
@@ -28,14 +28,14 @@ use Rattle.orders.specs.Order.{Precedes, Meets}
 use Rattle.model.specs.Events.{atRow, ofReader, ofWriter, anyTwo}
 use Rattle.model.specs.Happens.{rowSyncs, synchronises, initFirst}
 use Rattle.model.specs.Rules.{breaks24, untorn, untornFrom, breaks25}
-use Rattle.model.specs.Bar.{barA, barB, barC, rowBars, bar}
+use Rattle.model.specs.Bar.{barA, barB, barC, rowBars}
 use Rattle.model.specs.Order.{problem}
 use Rattle.model.specs.Unsettled.{clash, unsettled}
 use Rattle.model.specs.Sentences.{firstShape, shape, OneAccess, sync01, init01, between01, torn01, bars01, unsettled01, Meets01, Reduced}
 use Rattle.model.proofs.ShapeLaws.{equal-sym, equal-self, covers-equal, nothing-covers}
 use Rattle.model.proofs.EventsLaws.{event-out, shape-mem, reads-covers, writes-covers, covering-inside}
 use Rattle.model.proofs.Sound.{Sound}
-use Rattle.model.proofs.BarLaws.{RowBars, row-bars, bars-row, bar-elim, bar-intro}
+use Rattle.model.proofs.BarLaws.{row-bars, bars-row, bar-elim, bar-intro}
 use Rattle.model.proofs.OrderLaws.{distinct-apart}
 
 pub one-access : (x : Execution) → WellFormed x → OneAccess x

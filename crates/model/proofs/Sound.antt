@@ -1,26 +1,23 @@
 -- What the theorems need of an execution, over membership in the lists; it follows from what the reader promises. Assumes nothing.
 --     Sound x, sound     of a well-formed execution              mem-getD, getD-mem     an entry of a list and its place
-use mathlib.Core.Path.{_≡_, refl, sym, ap, _∙_, subst}
-use mathlib.Core.Logic.{_⊎_, inl, inr}
+use mathlib.Core.Path.{_≡_, refl, sym, subst}
 use mathlib.Core.Bool.{Bool, true, false, cond}
 use mathlib.Core.List.{List, [], _∷_, List·Memᴰ, List·Memᴰ·head, List·Memᴰ·tail, List·Memᴰ·eq-of-singleton}
-use Prim.Native.Nat.{ℕ, zero, suc, _≤_, _<_}
+use Prim.Native.Nat.{ℕ, zero, suc, _<_}
 use native.Mathlib.Omega.{arith}
 use native.Mathlib.Decide.{ℕ-discrete, decLt}
-use native.Mathlib.Nat.{not-suc-le-zero}
 use lib.Dec.{T, eqb, eqb→eq}
 use lib.ListN.{length, getD}
 use Rattle.basis.specs.Test.{number}
-use Rattle.basis.proofs.TestLaws.{decide, any-intro, any-elim}
+use Rattle.basis.proofs.TestLaws.{any-intro, any-elim}
 use Rattle.basis.proofs.LoopLaws.{true-T}
 use Rattle.format.specs.declared.Row.{Row}
 use Rattle.format.specs.declared.Pair.{Pair}
-use Rattle.format.specs.declared.Shape.{Shape}
 use Rattle.format.specs.Shape.{marks, overlap}
 use Rattle.format.specs.Event.{Access, Event, nobody, isInit, meets, readsAt, writesAt, isMarker}
 use Rattle.format.specs.Execution.{Execution, eventNo, event, inits, noRow, noPair}
 use Rattle.format.proofs.EventLaws.{isMarker-nobody}
-use Rattle.sheet.specs.Promise.{WellEvent, WellFormed, OneRow, row, pair}
+use Rattle.sheet.specs.Promise.{WellEvent, WellFormed, row, pair}
 use Rattle.model.specs.Events.{anyTwo}
 use Rattle.model.proofs.ShapeLaws.{overlap-sym}
 use Rattle.model.proofs.EventsLaws.{event-inside, access-inside, two-elim}

@@ -2,23 +2,21 @@
 --     unsettled-inside              both are events
 --     orderly-none, none-orderly    orderly exactly where no pair is found
 --     settles                       what orderly says of two events with a byte in common, one of them writing there
-use mathlib.Core.Path.{_≡_, refl, sym, subst}
+use mathlib.Core.Path.{_≡_}
 use mathlib.Core.Logic.{_⊎_, inl, inr}
 use mathlib.Core.Bool.{Bool}
-use mathlib.Core.List.{List, List·Memᴰ}
 use mathlib.Core.Option.{none}
 use Prim.Native.Nat.{ℕ, _<_}
 use native.Mathlib.Omega.{arith}
 use native.Mathlib.Decide.{decLt}
-use lib.Dec.{T, ltb, lt→ltb}
+use lib.Dec.{T, lt→ltb}
 use lib.ListN.{length}
-use Rattle.basis.specs.Test.{_and_, _or_, non, find, across}
-use Rattle.basis.proofs.TestLaws.{decide, and-elim, and-intro, or-cases, or-left, or-right, non-elim, non-intro, find-none, none-find, across-mem}
-use Rattle.format.specs.declared.Shape.{Shape}
+use Rattle.basis.specs.Test.{_or_, across}
+use Rattle.basis.proofs.TestLaws.{decide, and-elim, and-intro, or-cases, or-left, or-right, non-intro, find-none, none-find, across-mem}
 use Rattle.format.specs.Shape.{writes, covers, bothSc}
 use Rattle.format.specs.Event.{shapeAt}
 use Rattle.format.specs.Execution.{Execution, event}
-use Rattle.model.specs.Events.{numbers, anyTwo}
+use Rattle.model.specs.Events.{numbers}
 use Rattle.model.specs.Unsettled.{clash, unsettled, unsettledPair, Orderly}
 use Rattle.model.proofs.ShapeLaws.{both-cover, both-sym}
 use Rattle.model.proofs.EventsLaws.{two-elim, two-at, access-inside, number-mem}

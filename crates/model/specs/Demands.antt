@@ -1,22 +1,26 @@
 -- What is claimed of the answers, for all sheets and buffers. Proved, a line each, in proofs/Demands.antt.
 --     Answered       every sheet has an answer, whatever is lent               Agreement     and it has one
 --     Demand2        what consistent, broken and orderly mean                  Demand3       an orderly execution replays on a plain memory
+--     LitmusRight    the entries of a table, each Judged
+--     Reduction      today's sheets: 01's sentences over events               InitsFirst    the inits may stand first
+--     LowestPair     the pair that is named
 --     NoRowRefused   a read byte without a row is refused                      OneRowEach    what is judged has one row for each read byte
 -- Assumes nothing.
 use mathlib.Core.Path.{_≡_}
 use mathlib.Core.Logic.{_↔_}
 use mathlib.Core.Bool.{Bool}
-use mathlib.Core.List.{List}
-use mathlib.Core.Option.{none}
+use mathlib.Core.List.{List, _++_, List·Memᴰ}
+use mathlib.Core.Option.{none, some}
 use Prim.Native.Nat.{ℕ, _≤_}
 use lib.Dec.{T}
 use lib.ListN.{length, take, drop}
 use Rattle.format.specs.Event.{readsAt}
-use Rattle.format.specs.Execution.{Execution, event}
+use Rattle.format.specs.Execution.{Execution, event, inits}
 use Rattle.sheet.specs.Parse.{whole, parse}
 use Rattle.sheet.specs.Promise.{OneRow}
 use Rattle.orders.specs.Order.{Meets}
 use Rattle.orders.specs.First.{FirstOf}
+use Rattle.orders.specs.Inits.{Begins}
 use Rattle.answer.specs.declared.Settled.{Settled}
 use Rattle.answer.specs.declared.Settled.the-variants.{Orderly as AllSettled}
 use Rattle.answer.specs.declared.Answer.{Answer}
@@ -24,10 +28,12 @@ use Rattle.answer.specs.declared.Answer.the-variants.{Refused, Broken, Consiste
 use Rattle.model.specs.Happens.{Tests}
 use Rattle.model.specs.Rules.{Fault, fault}
 use Rattle.model.specs.Order.{problem}
-use Rattle.model.specs.Unsettled.{Orderly}
+use Rattle.model.specs.Unsettled.{unsettled, unsettledPair, Orderly}
 use Rattle.model.specs.Memory.{Explains}
 use Rattle.model.specs.Judged.{needed, Breaks, Judged}
 use Rattle.model.specs.Described.{described, Rowless}
+use Rattle.model.specs.Sentences.{Reduced}
+use Rattle.model.specs.Litmus.{Entry}
 
 abbrev pub IsRefused : Answer → Type 0
 IsRefused a = (n : ℕ) × (p : ℕ) × (a ≡ Refused n p)
@@ -87,3 +93,25 @@ pub record Rowed (s : List ℕ) : Type 0 where
 abbrev pub OneRowEach : Type 0
 OneRowEach = (s scratch order : List ℕ) (answer : Answer) (scratch′ order′ : List ℕ) → (IsRefused answer → ⊥)
     → Judged s scratch order answer scratch′ order′ → Rowed s
+
+-- For any buffers of the lengths that the entry names, its answer is Judged, with its order in front of the order buffer's rest.
+abbrev pub Right : Entry → Type 0
+Right e = (scratch order : List ℕ) → length scratch ≡ e .room → length order ≡ e .places
+    → (scratch′ : List ℕ) × Judged (e .sheet) scratch order (e .answer) scratch′ (e .order ++ drop (length (e .order)) order)
+
+-- 01: "The (P) entries form a single table, tested against the definitions by one statement"
+abbrev pub LitmusRight : List Entry → Type 0
+LitmusRight table = (e : Entry) → List·Memᴰ e table → Right e
+
+-- Of a sheet that is not refused, the definitions of this crate are 01's sentences over events.
+abbrev pub Reduction : Type 0
+Reduction = (s : List ℕ) (x : Execution) (hb : ℕ → ℕ → Bool) → parse s ≡ whole x → Reduced x hb
+
+-- The first order begins with all inits in number order: what the search of the crate orders asks for.
+abbrev pub InitsFirst : Type 0
+InitsFirst = (s : List ℕ) (x : Execution) (hb : ℕ → ℕ → Bool) → parse s ≡ whole x → Tests x hb → Begins (problem x hb) (inits (x .events))
+
+-- 01: "Otherwise the lowest pair is named."
+abbrev pub LowestPair : Type 0
+LowestPair = (x : Execution) (hb : ℕ → ℕ → Bool) (e d : ℕ) → unsettledPair x hb ≡ some (e, d)
+    → T (unsettled x hb e d) × ((e′ d′ : ℕ) → T (unsettled x hb e′ d′) → (e ≤ e′) × (e′ ≡ e → d ≤ d′))

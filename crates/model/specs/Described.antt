@@ -4,7 +4,7 @@
 --     Rowless x        some byte of some read of x has no row
 -- Assumes nothing.
 use mathlib.Core.Path.{_≡_}
-use mathlib.Core.Bool.{Bool, true, false}
+use mathlib.Core.Bool.{true, false}
 use mathlib.Core.List.{List, List·Memᴰ}
 use Prim.Native.Nat.{ℕ, zero, suc}
 use lib.Dec.{T, ltb}

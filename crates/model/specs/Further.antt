@@ -1,9 +1,9 @@
 -- More entries in the form of specs/Litmus.antt: those of 01's litmus table that are not marked (P), its "Mistakes that look right", and ours, which
--- see faults in the rules that 01's table does not. Tested by one statement in proofs/Litmus.antt. Assumes nothing.
+-- see faults in the rules that 01's table does not. Tested by one statement in proofs/AllEntries.antt. Assumes nothing.
 --     further     the table
 use mathlib.Core.List.{List, [], _∷_}
 use lib.ListN.{replicate}
-use Rattle.answer.specs.declared.Names.the-variants.{Row as OfRow, Event as OfEvent, Between, Torn, Nobody}
+use Rattle.answer.specs.declared.Names.the-variants.{Row as OfRow, Event as OfEvent, Between, Nobody}
 use Rattle.answer.specs.declared.Settled.the-variants.{Orderly, Unsettled}
 use Rattle.answer.specs.declared.Answer.the-variants.{Refused, Broken, Consistent}
 use Rattle.model.specs.Litmus.{sheet, head, unordered, sc, init, read, write, modify, marker, row, pair, Entry, lending, judged}
@@ -20,6 +20,8 @@ further =
     ∷ judged (sheet (head 8 8 ∷ init 0 (replicate 8 0) ∷ write 1 unordered 0 (1 ∷ []) ∷ read 1 unordered 0 (1 ∷ []) ∷ write 2 unordered 1 (2 ∷ []) ∷ read 2 unordered 1 (2 ∷ []) ∷ write 3 unordered 2 (3 ∷ []) ∷ read 3 unordered 2 (3 ∷ []) ∷ write 4 unordered 3 (4 ∷ []) ∷ read 4 unordered 3 (4 ∷ []) ∷ write 5 unordered 4 (5 ∷ []) ∷ read 5 unordered 4 (5 ∷ []) ∷ write 6 unordered 5 (6 ∷ []) ∷ read 6 unordered 5 (6 ∷ []) ∷ write 7 unordered 6 (7 ∷ []) ∷ read 7 unordered 6 (7 ∷ []) ∷ write 8 unordered 7 (8 ∷ []) ∷ read 8 unordered 7 (8 ∷ []) ∷ row 2 0 1 ∷ row 4 1 3 ∷ row 6 2 5 ∷ row 8 3 7 ∷ row 10 4 9 ∷ row 12 5 11 ∷ row 14 6 13 ∷ row 16 7 15 ∷ [])) (Consistent Orderly) (0 ∷ 1 ∷ 2 ∷ 3 ∷ 4 ∷ 5 ∷ 6 ∷ 7 ∷ 8 ∷ 9 ∷ 10 ∷ 11 ∷ 12 ∷ 13 ∷ 14 ∷ 15 ∷ 16 ∷ [])
     -- 16, with 8,191 bytes of scratch
     ∷ lending 8191 20 (sheet (head 8 8 ∷ init 0 (replicate 8 0) ∷ write 1 unordered 0 (1 ∷ []) ∷ read 1 unordered 0 (1 ∷ []) ∷ write 2 unordered 1 (2 ∷ []) ∷ read 2 unordered 1 (2 ∷ []) ∷ write 3 unordered 2 (3 ∷ []) ∷ read 3 unordered 2 (3 ∷ []) ∷ write 4 unordered 3 (4 ∷ []) ∷ read 4 unordered 3 (4 ∷ []) ∷ write 5 unordered 4 (5 ∷ []) ∷ read 5 unordered 4 (5 ∷ []) ∷ write 6 unordered 5 (6 ∷ []) ∷ read 6 unordered 5 (6 ∷ []) ∷ write 7 unordered 6 (7 ∷ []) ∷ read 7 unordered 6 (7 ∷ []) ∷ write 8 unordered 7 (8 ∷ []) ∷ read 8 unordered 7 (8 ∷ []) ∷ row 2 0 1 ∷ row 4 1 3 ∷ row 6 2 5 ∷ row 8 3 7 ∷ row 10 4 9 ∷ row 12 5 11 ∷ row 14 6 13 ∷ row 16 7 15 ∷ [])) (Refused 12 0) []
+    -- 16, with both too short: the scratch is tested first
+    ∷ lending 8191 16 (sheet (head 8 8 ∷ init 0 (replicate 8 0) ∷ write 1 unordered 0 (1 ∷ []) ∷ read 1 unordered 0 (1 ∷ []) ∷ write 2 unordered 1 (2 ∷ []) ∷ read 2 unordered 1 (2 ∷ []) ∷ write 3 unordered 2 (3 ∷ []) ∷ read 3 unordered 2 (3 ∷ []) ∷ write 4 unordered 3 (4 ∷ []) ∷ read 4 unordered 3 (4 ∷ []) ∷ write 5 unordered 4 (5 ∷ []) ∷ read 5 unordered 4 (5 ∷ []) ∷ write 6 unordered 5 (6 ∷ []) ∷ read 6 unordered 5 (6 ∷ []) ∷ write 7 unordered 6 (7 ∷ []) ∷ read 7 unordered 6 (7 ∷ []) ∷ write 8 unordered 7 (8 ∷ []) ∷ read 8 unordered 7 (8 ∷ []) ∷ row 2 0 1 ∷ row 4 1 3 ∷ row 6 2 5 ∷ row 8 3 7 ∷ row 10 4 9 ∷ row 12 5 11 ∷ row 14 6 13 ∷ row 16 7 15 ∷ [])) (Refused 12 0) []
     -- 16, with an order buffer of 16 bytes for 17 events
     ∷ lending 8192 16 (sheet (head 8 8 ∷ init 0 (replicate 8 0) ∷ write 1 unordered 0 (1 ∷ []) ∷ read 1 unordered 0 (1 ∷ []) ∷ write 2 unordered 1 (2 ∷ []) ∷ read 2 unordered 1 (2 ∷ []) ∷ write 3 unordered 2 (3 ∷ []) ∷ read 3 unordered 2 (3 ∷ []) ∷ write 4 unordered 3 (4 ∷ []) ∷ read 4 unordered 3 (4 ∷ []) ∷ write 5 unordered 4 (5 ∷ []) ∷ read 5 unordered 4 (5 ∷ []) ∷ write 6 unordered 5 (6 ∷ []) ∷ read 6 unordered 5 (6 ∷ []) ∷ write 7 unordered 6 (7 ∷ []) ∷ read 7 unordered 6 (7 ∷ []) ∷ write 8 unordered 7 (8 ∷ []) ∷ read 8 unordered 7 (8 ∷ []) ∷ row 2 0 1 ∷ row 4 1 3 ∷ row 6 2 5 ∷ row 8 3 7 ∷ row 10 4 9 ∷ row 12 5 11 ∷ row 14 6 13 ∷ row 16 7 15 ∷ [])) (Refused 13 0) []
     -- 16. (..) The head alone: refused 10 at 6.

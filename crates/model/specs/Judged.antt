@@ -19,7 +19,6 @@ use Rattle.sheet.specs.Parse.{Parsed, refused, whole, parse}
 use Rattle.sets.specs.Table.{bytesFor, cleared}
 use Rattle.orders.specs.Order.{Meets}
 use Rattle.orders.specs.First.{FirstOf}
-use Rattle.answer.specs.declared.Names.{Names}
 use Rattle.answer.specs.declared.Names.the-variants.{Nobody}
 use Rattle.answer.specs.declared.Settled.{Settled}
 use Rattle.answer.specs.declared.Settled.the-variants.{Orderly, Unsettled}

@@ -11,3 +11,4 @@ pub mod Sentences
 pub mod Litmus
 pub mod Further
 pub mod Demands
+pub mod Fewer

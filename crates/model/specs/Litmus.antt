@@ -1,4 +1,4 @@
--- The litmus table (01), the entries marked (P): sheets as bytes, what is lent, and what comes back. Tested by one statement and made into `Judged`
+-- The litmus table (01), the entries marked (P): sheets as bytes, what is lent, and what comes back. Tested by one statement, proofs/AllEntries.antt, and made into `Judged`
 -- each by one law: proofs/Litmus.antt. The other entries: specs/Further.antt.
 --     field, sheet, head, init, read, write, modify, marker, row, pair     the bytes of fields
 --     Entry                                                                a sheet, the lengths of both buffers, the answer, the order
@@ -8,7 +8,7 @@
 -- Assumes nothing.
 use mathlib.Core.List.{List, [], _∷_, _++_}
 use Prim.Native.Nat.{ℕ}
-use lib.ListN.{length, replicate}
+use lib.ListN.{length}
 use Rattle.answer.specs.declared.Names.the-variants.{Row as OfRow, Event as OfEvent, Between, Torn, Nobody}
 use Rattle.answer.specs.declared.Settled.the-variants.{Orderly, Unsettled}
 use Rattle.answer.specs.declared.Answer.{Answer}

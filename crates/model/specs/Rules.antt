@@ -4,8 +4,7 @@
 --     Fault, fault x hb                                                                   the first that is broken, and whom it names
 -- Assumes nothing.
 use mathlib.Core.Bool.{Bool}
-use mathlib.Core.List.{List}
-use mathlib.Core.Option.{Option, none, some}
+use mathlib.Core.Option.{Option}
 use Prim.Native.Nat.{ℕ}
 use lib.Dec.{eqb, ltb}
 use Rattle.basis.specs.Test.{_and_, non, any, find, _else_, mapped, across}

@@ -16,7 +16,7 @@ use Rattle.basis.specs.Test.{_and_, _or_, non, any}
 use Rattle.format.specs.declared.Shape.{Shape}
 use Rattle.format.specs.declared.Row.{Row}
 use Rattle.format.specs.Shape.{noShape, writes, sc, tearFree, covers, overlap, equal}
-use Rattle.format.specs.Event.{Access, Event, isInit}
+use Rattle.format.specs.Event.{Access, isInit}
 use Rattle.format.specs.Execution.{Execution, event}
 use Rattle.orders.specs.Order.{In, Precedes, Distinct, Meets}
 use Rattle.model.specs.Happens.{rowSyncs, synchronises, initFirst}

@@ -6,3 +6,4 @@ pub mod ContentLaws
 pub mod PromiseLaws
 pub mod AgreementLaws
 pub mod RefusalLaws
+pub mod Examples

@@ -3,3 +3,4 @@ pub mod Parse
 pub mod Handed
 pub mod Promise
 pub mod Between
+pub mod Examples

@@ -13,28 +13,12 @@ fn length_of(high: u8, low: u8) -> usize
     if n < 4097 { n } else { 4097 }
 }
 
-// How many events stand in an order buffer that was filled with 255: no event has that number.
-fn events_in(order: &[u8]) -> usize
-    ensures { λ r. ⌜ r ≤ length (now (order .entry)) ⌝ }
-{
-    let mut n = 0;
-    while n < order.len() {
-        if order[n] == 255 {
-            return n;
-        }
-        n += 1;
-    }
-    n
-}
-
 // The judge's answer on a sheet, as a line.
 fn told(s: &[u8]) {
     let mut scratch = [0u8; 8192];
     let mut order = [255u8; 32];
-    let answer = judge::judge(s, &mut scratch, &mut order);
-    let events = events_in(&order);
     let mut out = [0u8; 256];
-    let k = report::line(answer, &order[..events], &mut out);
+    let k = tell::tell(s, &mut scratch, &mut order, &mut out);
     io::write_all(STDOUT_FILENO, &out[..k]);
 }
 

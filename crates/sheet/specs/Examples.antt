@@ -1,0 +1,71 @@
+-- Sheets that `parse` is run on: 01's example and litmus 2, the head alone, the empty sheet, and one for each refusal number that a short sheet
+-- can show (1 needs a long one). Computed in proofs/Examples.antt, by one statement.
+--     Example, examples     the bytes, and what they say
+--     Right                 `parse` says so of each
+-- Assumes nothing.
+use mathlib.Core.Path.{_≡_}
+use mathlib.Core.List.{List, [], _∷_, _++_}
+use Prim.Native.Nat.{ℕ}
+use lib.ListN.{take}
+use Rattle.basis.specs.Test.{each}
+use Rattle.sheet.specs.Parse.{Parsed, refused, whole, parse}
+
+pub record Example : Type 0 where
+  pub bytes : List ℕ
+  pub says : Parsed
+
+abbrev pub of : List ℕ → Parsed → Example
+of s p = record { bytes = s; says = p }
+
+-- 01: "Whole example, 30 bytes in hexadecimal"
+abbrev pub example : List ℕ
+example =
+    0x01 ∷ 0x00 ∷ 0x03 ∷ 0x01 ∷ 0x01 ∷ 0x01 ∷ 0x02 ∷ 0x00 ∷ 0x06 ∷ 0x00 ∷ 0x02 ∷ 0x00 ∷ 0x00 ∷ 0x01 ∷ 0x00
+    ∷ 0x02 ∷ 0x00 ∷ 0x06 ∷ 0x01 ∷ 0x01 ∷ 0x01 ∷ 0x00 ∷ 0x01 ∷ 0x00 ∷ 0x03 ∷ 0x00 ∷ 0x03 ∷ 0x01 ∷ 0x00 ∷ 0x00 ∷ []
+
+-- a head, an init of byte a, a marker, a pair
+abbrev pub head : ℕ → ℕ → List ℕ
+head agents size = 1 ∷ 0 ∷ 3 ∷ 1 ∷ agents ∷ size ∷ []
+
+abbrev pub init : ℕ → List ℕ
+init a = 2 ∷ 0 ∷ 6 ∷ 0 ∷ 2 ∷ 0 ∷ a ∷ 1 ∷ 0 ∷ []
+
+abbrev pub marker : ℕ → List ℕ
+marker agent = 2 ∷ 0 ∷ 5 ∷ agent ∷ 4 ∷ 2 ∷ 0 ∷ 0 ∷ []
+
+unfoldable pub examples : List Example
+examples =
+    of example (whole (record {
+      head = record { edition = 1; agents = 1; size = 1 };
+      events = record { agent = 0; accesses = record { shape = record { kind = 2; mode = 0; start = 0; width = 1; tear = 0 }; seen = []; written = 0 ∷ [] } ∷ [] }
+          ∷ record { agent = 1; accesses = record { shape = record { kind = 1; mode = 1; start = 0; width = 1; tear = 1 }; seen = 0 ∷ []; written = [] } ∷ [] } ∷ [];
+      rows = record { reader = 1; address = 0; writer = 0 } ∷ [];
+      pairs = [];
+    }))
+    -- litmus 2: its last field removed; the head alone; the empty sheet
+    ∷ of (take 24 example) (refused 11 15)
+    ∷ of (take 6 example) (refused 10 6)
+    ∷ of [] (refused 3 0)
+    -- fewer than three bytes left; a value past the end; an unknown tag; a second head; no head
+    ∷ of (take 8 example) (refused 2 6)
+    ∷ of (take 29 example) (refused 2 24)
+    ∷ of (head 1 1 ++ (5 ∷ 0 ∷ 0 ∷ [])) (refused 3 6)
+    ∷ of (head 1 1 ++ head 1 1) (refused 3 6)
+    ∷ of (init 0) (refused 3 0)
+    -- a head of two bytes; 9 agents; memory 65
+    ∷ of (1 ∷ 0 ∷ 2 ∷ 1 ∷ 1 ∷ []) (refused 4 0)
+    ∷ of (head 9 1) (refused 5 0)
+    ∷ of (head 1 65) (refused 5 0)
+    -- an init outside the memory; an overlapping one; a marker with data; a fifth init
+    ∷ of (head 1 1 ++ init 1) (refused 6 6)
+    ∷ of (head 1 1 ++ init 0 ++ init 0) (refused 6 15)
+    ∷ of (head 1 1 ++ (2 ∷ 0 ∷ 6 ∷ 1 ∷ 4 ∷ 2 ∷ 0 ∷ 0 ∷ 0 ∷ [])) (refused 4 6)
+    ∷ of (head 1 5 ++ init 0 ++ init 1 ++ init 2 ++ init 3 ++ init 4) (refused 9 42)
+    -- a row of no events; the same row twice; a pair of one agent
+    ∷ of (head 1 1 ++ (3 ∷ 0 ∷ 3 ∷ 0 ∷ 0 ∷ 1 ∷ [])) (refused 7 6)
+    ∷ of (example ++ (3 ∷ 0 ∷ 3 ∷ 1 ∷ 0 ∷ 0 ∷ [])) (refused 7 30)
+    ∷ of (head 1 1 ++ marker 1 ++ marker 1 ++ (4 ∷ 0 ∷ 2 ∷ 0 ∷ 1 ∷ [])) (refused 8 22)
+    ∷ []
+
+abbrev pub Right : Type 0
+Right = each (λ (e : Example). parse (e .bytes)) examples ≡ each (λ (e : Example). e .says) examples

@@ -7,7 +7,6 @@ name=${1:-judge_c}
 cd "$(dirname "$0")/.."
 out=target/native
 mkdir -p $out
-[ -d "crates/$name" ] || exec harness/standin/make.sh # STAND-IN: goes when crates/judge_c is there
 if [ "$(uname -m)" = x86_64 ]; then
     rt staticlib "$name"
     # an archive that has not changed keeps its time, so that cargo links nothing anew

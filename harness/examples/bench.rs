@@ -1,5 +1,6 @@
-//! bench: the linked judge and the ordinary Rust judge over the same whole sheets, buffers reused, in one run. A line
-//! for each number of events that are not inits and each answer: nanoseconds a sheet, and the ratio.
+//! bench: the linked judge and two ordinary Rust judges over the same whole sheets, buffers reused, in one run: one by
+//! the proved judge's method step by step (`ordinary::same`), one with more tables of masks (`ordinary`). A line for each
+//! number of events that are not inits and each answer: nanoseconds a sheet, and the linked judge's time by the other's.
 
 use second::random::{sized, Rng};
 use std::hint::black_box;
@@ -7,9 +8,9 @@ use std::time::Instant;
 
 const SIZES: [usize; 4] = [4, 8, 12, 16];
 const SHEETS: usize = 200;
-const ROUNDS: usize = 41;
-/// A round takes about this long.
-const ROUND: f64 = 2e-3;
+const ROUNDS: usize = 401;
+/// A round takes about this long in seconds: less than a slice of the processor, so that the lowest was not interrupted.
+const ROUND: f64 = 4e-4;
 
 type Judge = fn(&[u8], &mut [u8], &mut [u8]) -> u64;
 
@@ -50,35 +51,34 @@ fn pass(judge: Judge, sheets: &[Vec<u8>], times: usize, scratch: &mut [u8], orde
 
 fn main() {
     let (mut scratch, mut order) = (vec![0; plimdrong::MAX_SCRATCH], vec![0; plimdrong::MAX_EVENTS]);
-    println!("{}; release build; median of {ROUNDS} rounds, the two judges in turn", machine());
-    println!("| events | answer | sheets | ordinary, ns a sheet | plimdrong, ns a sheet | ratio |");
-    println!("|---|---|---|---|---|---|");
+    println!("{}; release build; lowest of {ROUNDS} rounds, the three judges in turn", machine());
+    println!("| events | answer | plimdrong, ns | same method, ns | ratio | more masks, ns | ratio |");
+    println!("|---|---|---|---|---|---|---|");
+    let judges: [Judge; 3] = [plimdrong::judge_with, ordinary::same::judge, ordinary::judge];
     for n in SIZES {
         for (kind, name) in [(3, "consistent"), (2, "broken 26")] {
             let sheets = sheets(n, kind);
             for sheet in &sheets {
-                let mut order2 = order.clone();
-                let word = ordinary::judge(sheet, &mut scratch, &mut order);
-                assert_eq!((word, &order), (plimdrong::judge_with(sheet, &mut scratch, &mut order2), &order2));
+                let told = judges.map(|judge| {
+                    let mut order = vec![0; plimdrong::MAX_EVENTS];
+                    (judge(sheet, &mut scratch, &mut order), order)
+                });
+                assert!(told[0] == told[1] && told[0] == told[2]);
             }
             let once = pass(ordinary::judge, &sheets, 3, &mut scratch, &mut order) / 3.0;
             let times = ((ROUND / once) as usize).max(1);
-            let mut rounds: Vec<(f64, f64)> = (0..ROUNDS)
-                .map(|_| {
-                    let theirs = pass(ordinary::judge, &sheets, times, &mut scratch, &mut order);
-                    let ours = pass(plimdrong::judge_with, &sheets, times, &mut scratch, &mut order);
-                    (theirs, ours)
-                })
+            let rounds: Vec<[f64; 3]> = (0..ROUNDS)
+                .map(|_| judges.map(|judge| pass(judge, &sheets, times, &mut scratch, &mut order)))
                 .collect();
-            rounds.sort_by(|a, b| (a.1 / a.0).total_cmp(&(b.1 / b.0)));
-            let (theirs, ours) = rounds[ROUNDS / 2];
-            let each = |s: f64| s * 1e9 / (times * sheets.len()) as f64;
+            let lowest = |j: usize| rounds.iter().map(|r| r[j]).fold(f64::INFINITY, f64::min);
+            let each = |j: usize| lowest(j) * 1e9 / (times * sheets.len()) as f64;
             println!(
-                "| {n} | {name} | {} | {:.0} | {:.0} | {:.2} |",
-                sheets.len(),
-                each(theirs),
-                each(ours),
-                ours / theirs
+                "| {n} | {name} | {:.0} | {:.0} | {:.2} | {:.0} | {:.2} |",
+                each(0),
+                each(1),
+                each(0) / each(1),
+                each(2),
+                each(0) / each(2)
             );
         }
     }

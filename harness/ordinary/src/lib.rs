@@ -1,8 +1,10 @@
-//! An ordinary Rust judge by the method of the proved one: a reader that keeps offsets, sets of events as masks, closure
-//! by whole rows, a depth-first search with a bit for each set entered. It is there to be measured against; what it
-//! answers is compared with the second program.
+//! Two ordinary Rust judges to measure the proved one against; what they answer is compared with the second program.
+//! `same` goes the proved judge's steps one by one. The one here has the same closure, bars and search, and more tables of
+//! masks (events with equal and with overlapping ranges, writers by byte), so that whole sets replace tests one by one.
 
 #![no_std]
+
+pub mod same;
 
 /// The head's limits and the sheet's, as document 01 gives them.
 const MAX_SHEET: usize = 4096;

@@ -1,4 +1,4 @@
-//! The ordinary judge against the second program: answer and both buffers.
+//! Both ordinary judges against the second program: answer and both buffers.
 
 use second::random::case;
 
@@ -6,14 +6,15 @@ use second::random::case;
 fn random_sheets() {
     for index in 0..60_000 {
         let c = case(21, index, [4, 6, 9, 16][index as usize % 4]);
-        let mut scratch = vec![0xa5; c.scratch];
-        let mut order = vec![0xa5; c.order];
-        let (mut scratch2, mut order2) = (scratch.clone(), order.clone());
+        let (mut scratch2, mut order2) = (vec![0xa5; c.scratch], vec![0xa5; c.order]);
         let expected = second::judge_into(&c.sheet, &mut scratch2, &mut order2);
-        let found = ordinary::judge(&c.sheet, &mut scratch, &mut order);
-        let told = || format!("{}\n{}{}", c.name, second::text::to_text(&c.sheet), expected.line());
-        assert_eq!(found, expected.word(), "{:x} {}", found, told());
-        assert_eq!(order, order2, "{}", told());
-        assert_eq!(scratch, scratch2, "{}", told());
+        for judge in [ordinary::judge, ordinary::same::judge] {
+            let (mut scratch, mut order) = (vec![0xa5; c.scratch], vec![0xa5; c.order]);
+            let found = judge(&c.sheet, &mut scratch, &mut order);
+            let told = || format!("{}\n{}{}", c.name, second::text::to_text(&c.sheet), expected.line());
+            assert_eq!(found, expected.word(), "{:x} {}", found, told());
+            assert_eq!(order, order2, "{}", told());
+            assert_eq!(scratch, scratch2, "{}", told());
+        }
     }
 }

@@ -16,7 +16,7 @@ further =
     ∷ judged (sheet (head 2 2 ∷ init 0 (0 ∷ 0 ∷ []) ∷ write 1 unordered 0 (1 ∷ []) ∷ write 1 unordered 1 (1 ∷ []) ∷ read 2 unordered 1 (1 ∷ []) ∷ read 2 unordered 0 (0 ∷ []) ∷ row 3 1 2 ∷ row 4 0 0 ∷ [])) (Consistent (Unsettled 1 4)) (0 ∷ 1 ∷ 2 ∷ 3 ∷ 4 ∷ [])
     -- 13. At 1, memory 3: unsettled 1 2, order 0 1 2 3. (As 12 otherwise.)
     ∷ judged (sheet (head 3 3 ∷ init 0 (0 ∷ 0 ∷ 0 ∷ []) ∷ write 1 unordered 1 (1 ∷ 1 ∷ []) ∷ write 2 unordered 1 (2 ∷ 2 ∷ []) ∷ read 3 unordered 1 (1 ∷ 2 ∷ []) ∷ row 3 1 1 ∷ row 3 2 2 ∷ [])) (Consistent (Unsettled 1 2)) (0 ∷ 1 ∷ 2 ∷ 3 ∷ [])
-    -- 16. 16 other events with 8,192 bytes of scratch: judged; with 8,191: refused 12. (Each of eight agents writes its own byte and reads it. The program always lends 8,192 bytes; 8,191 are tried by the harness's tests.)
+    -- 16. 16 other events with 8,192 bytes of scratch: judged; with 8,191: refused 12. (Each of eight agents writes its own byte and reads it.)
     ∷ judged (sheet (head 8 8 ∷ init 0 (replicate 8 0) ∷ write 1 unordered 0 (1 ∷ []) ∷ read 1 unordered 0 (1 ∷ []) ∷ write 2 unordered 1 (2 ∷ []) ∷ read 2 unordered 1 (2 ∷ []) ∷ write 3 unordered 2 (3 ∷ []) ∷ read 3 unordered 2 (3 ∷ []) ∷ write 4 unordered 3 (4 ∷ []) ∷ read 4 unordered 3 (4 ∷ []) ∷ write 5 unordered 4 (5 ∷ []) ∷ read 5 unordered 4 (5 ∷ []) ∷ write 6 unordered 5 (6 ∷ []) ∷ read 6 unordered 5 (6 ∷ []) ∷ write 7 unordered 6 (7 ∷ []) ∷ read 7 unordered 6 (7 ∷ []) ∷ write 8 unordered 7 (8 ∷ []) ∷ read 8 unordered 7 (8 ∷ []) ∷ row 2 0 1 ∷ row 4 1 3 ∷ row 6 2 5 ∷ row 8 3 7 ∷ row 10 4 9 ∷ row 12 5 11 ∷ row 14 6 13 ∷ row 16 7 15 ∷ [])) (Consistent Orderly) (0 ∷ 1 ∷ 2 ∷ 3 ∷ 4 ∷ 5 ∷ 6 ∷ 7 ∷ 8 ∷ 9 ∷ 10 ∷ 11 ∷ 12 ∷ 13 ∷ 14 ∷ 15 ∷ 16 ∷ [])
     -- 16, with 8,191 bytes of scratch
     ∷ lending 8191 20 (sheet (head 8 8 ∷ init 0 (replicate 8 0) ∷ write 1 unordered 0 (1 ∷ []) ∷ read 1 unordered 0 (1 ∷ []) ∷ write 2 unordered 1 (2 ∷ []) ∷ read 2 unordered 1 (2 ∷ []) ∷ write 3 unordered 2 (3 ∷ []) ∷ read 3 unordered 2 (3 ∷ []) ∷ write 4 unordered 3 (4 ∷ []) ∷ read 4 unordered 3 (4 ∷ []) ∷ write 5 unordered 4 (5 ∷ []) ∷ read 5 unordered 4 (5 ∷ []) ∷ write 6 unordered 5 (6 ∷ []) ∷ read 6 unordered 5 (6 ∷ []) ∷ write 7 unordered 6 (7 ∷ []) ∷ read 7 unordered 6 (7 ∷ []) ∷ write 8 unordered 7 (8 ∷ []) ∷ read 8 unordered 7 (8 ∷ []) ∷ row 2 0 1 ∷ row 4 1 3 ∷ row 6 2 5 ∷ row 8 3 7 ∷ row 10 4 9 ∷ row 12 5 11 ∷ row 14 6 13 ∷ row 16 7 15 ∷ [])) (Refused 12 0) []
@@ -36,7 +36,7 @@ further =
     ∷ judged (sheet (head 2 2 ∷ init 0 (0 ∷ 0 ∷ []) ∷ write 1 sc 0 (1 ∷ 1 ∷ []) ∷ read 2 sc 0 (0 ∷ []) ∷ row 2 0 0 ∷ [])) (Consistent (Unsettled 1 2)) (0 ∷ 1 ∷ 2 ∷ [])
     -- Beside 01's table, where no entry needs (a): A1 x=1 sc, A2 x=2 sc, A3 x reads 1 sc.
     ∷ judged (sheet (head 3 1 ∷ init 0 (0 ∷ []) ∷ write 1 sc 0 (1 ∷ []) ∷ write 2 sc 0 (2 ∷ []) ∷ read 3 sc 0 (1 ∷ []) ∷ row 3 0 1 ∷ [])) (Consistent Orderly) (0 ∷ 1 ∷ 3 ∷ 2 ∷ [])
-    -- Beside 01's table: the same two writes as 21, A3 reads x 1 then 2, A4 reads x 2 then 1, all sc.
+    -- Beside 01's table: the two writes of examples/litmus/21, A3 reads x 1 then 2, A4 reads x 2 then 1, all sc.
     ∷ judged (sheet (head 4 1 ∷ init 0 (0 ∷ []) ∷ write 1 sc 0 (1 ∷ []) ∷ write 2 sc 0 (2 ∷ []) ∷ read 3 sc 0 (1 ∷ []) ∷ read 3 sc 0 (2 ∷ []) ∷ read 4 sc 0 (2 ∷ []) ∷ read 4 sc 0 (1 ∷ []) ∷ row 3 0 1 ∷ row 4 0 2 ∷ row 5 0 2 ∷ row 6 0 1 ∷ [])) (Broken 26 Nobody) []
     -- Beside 01's table: A1 writes 01 01 unordered at 0 width 2, A2 reads 01 00 (second byte from the init).
     ∷ judged (sheet (head 2 2 ∷ init 0 (0 ∷ 0 ∷ []) ∷ write 1 unordered 0 (1 ∷ 1 ∷ []) ∷ read 2 unordered 0 (1 ∷ 0 ∷ []) ∷ row 2 0 1 ∷ row 2 1 0 ∷ [])) (Consistent (Unsettled 1 2)) (0 ∷ 1 ∷ 2 ∷ [])
@@ -66,9 +66,9 @@ further =
     ∷ judged (sheet (head 2 1 ∷ init 0 (0 ∷ []) ∷ write 1 unordered 0 (1 ∷ []) ∷ write 1 sc 0 (2 ∷ []) ∷ read 2 sc 0 (1 ∷ []) ∷ row 3 0 1 ∷ [])) (Consistent (Unsettled 1 3)) (0 ∷ 1 ∷ 2 ∷ 3 ∷ [])
     -- Further entry 13: A1 x=1 unordered, marker; A2 x=2 sc; A3 marker, x reads 1 sc; pair
     ∷ judged (sheet (head 3 1 ∷ init 0 (0 ∷ []) ∷ write 1 unordered 0 (1 ∷ []) ∷ marker 1 ∷ write 2 sc 0 (2 ∷ []) ∷ marker 3 ∷ read 3 sc 0 (1 ∷ []) ∷ row 5 0 1 ∷ pair 2 4 ∷ [])) (Consistent (Unsettled 1 3)) (0 ∷ 1 ∷ 2 ∷ 3 ∷ 4 ∷ 5 ∷ [])
-    -- Further entry 14: as 21, second write of width 2
+    -- Further entry 14: as examples/litmus/21, second write of width 2
     ∷ judged (sheet (head 3 2 ∷ init 0 (0 ∷ 0 ∷ []) ∷ write 1 sc 0 (1 ∷ []) ∷ write 2 sc 0 (2 ∷ 2 ∷ []) ∷ read 3 sc 0 (1 ∷ []) ∷ row 3 0 1 ∷ [])) (Consistent (Unsettled 1 2)) (0 ∷ 1 ∷ 2 ∷ 3 ∷ [])
-    -- Further entry 15: as 21, second write unordered
+    -- Further entry 15: as examples/litmus/21, second write unordered
     ∷ judged (sheet (head 3 1 ∷ init 0 (0 ∷ []) ∷ write 1 sc 0 (1 ∷ []) ∷ write 2 unordered 0 (2 ∷ []) ∷ read 3 sc 0 (1 ∷ []) ∷ row 3 0 1 ∷ [])) (Consistent (Unsettled 1 2)) (0 ∷ 1 ∷ 2 ∷ 3 ∷ [])
     -- Further entry 16: A1 x=1 sc, A2 and A3 x read 1 sc
     ∷ judged (sheet (head 3 1 ∷ init 0 (0 ∷ []) ∷ write 1 sc 0 (1 ∷ []) ∷ read 2 sc 0 (1 ∷ []) ∷ read 3 sc 0 (1 ∷ []) ∷ row 2 0 1 ∷ row 3 0 1 ∷ [])) (Consistent Orderly) (0 ∷ 1 ∷ 2 ∷ 3 ∷ [])

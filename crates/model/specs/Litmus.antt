@@ -63,7 +63,7 @@ pub record Entry : Type 0 where
 abbrev pub lending : ℕ → ℕ → List ℕ → Answer → List ℕ → Entry
 lending room places s a o = record { room = room; places = places; sheet = s; answer = a; order = o }
 
--- with what the program lends: 8,192 bytes of scratch, an order buffer for the 20 events that there can be
+-- with 8,192 bytes of scratch, as the program lends, and an order buffer for the 20 events that there can be (the program lends 32 bytes)
 abbrev pub judged : List ℕ → Answer → List ℕ → Entry
 judged s a o = lending 8192 20 s a o
 

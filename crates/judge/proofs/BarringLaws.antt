@@ -34,6 +34,7 @@ use Rattle.model.proofs.EventsLaws.{event-out}
 use Rattle.model.proofs.HappensLaws.{reader-inside, writer-inside}
 use Rattle.judge.specs.Tables.{shapeIn, Entry, Given, hbOf, Ordered, Barred}
 use Rattle.judge.specs.Barring.{reasons, rowBarsIn, gained, Marked, Gathered}
+use Rattle.judge.proofs.FindLaws.{any-same, any-snoc}
 use Rattle.judge.proofs.TableLaws.{entry-hit, entry-writes, reader-shape, writer-shape}
 
 and-false : (b : Bool) → (b and false) ≡ false
@@ -130,20 +131,6 @@ module _ (k : ℕ) (test : ℕ → Bool) (r : Row) (l m : List ℕ) (f : Marked 
   marked-more = record { size = gained-size m place (r .reader) (test k) ∙ f .size; holds = step }
 
 -- ---- row by row
-
-any-snoc : {A : Type 0} (f : A → Bool) (l : List A) (a : A) → any f (l ++ (a ∷ [])) ≡ (any f l or f a)
-unfolding any _or_
-any-snoc f [] a = or-none (f a)
-any-snoc f (b ∷ l) a = go (f b) (any-snoc f l a)
-  where
-    go : (c : Bool) → any f (l ++ (a ∷ [])) ≡ (any f l or f a) → (c or any f (l ++ (a ∷ []))) ≡ ((c or any f l) or f a)
-    go true e = refl
-    go false e = e
-
-any-same : {A : Type 0} (f g : A → Bool) (l : List A) → ((a : A) → List·Memᴰ a l → f a ≡ g a) → any f l ≡ any g l
-unfolding any
-any-same f g [] h = refl
-any-same f g (a ∷ l) h = ap (λ (b : Bool). b or any f l) (h a (List·Memᴰ·head refl)) ∙ ap (λ (b : Bool). g a or b) (any-same f g l (λ c m. h c (List·Memᴰ·tail m)))
 
 module _ (s : List ℕ) (x : Sheet) (t succ pred : List ℕ) (k : ℕ) where
   pub gathered-none : Gathered s x t succ pred k 0 (replicate (slots * slots) 0)

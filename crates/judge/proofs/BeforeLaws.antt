@@ -28,6 +28,7 @@ use Rattle.format.specs.declared.Row.{Row}
 use Rattle.format.specs.Shape.{bothSc}
 use Rattle.judge.specs.Tables.{shapeIn}
 use Rattle.judge.specs.Steps.{Picked, rowStep, Adds, Blank}
+use Rattle.judge.proofs.FindLaws.{any-snoc}
 
 -- ---- a mask, number by number
 
@@ -127,11 +128,6 @@ module _ (r : List ℕ) (w v : ℕ) (f : ℕ → ℕ → Bool) (here : w < lengt
   adds-edge = record { size = length-set r w (insert (getD r w 0) v); has = λ e d. grown e d (ℕ-discrete e w) }
 
 module _ {A : Type 0} where
-  any-snoc : (p : A → Bool) (l : List A) (a : A) → any p (l ++ (a ∷ [])) ≡ (any p l or p a)
-  unfolding any _or_
-  any-snoc p [] a = or-none (p a)
-  any-snoc p (b ∷ l) a = ap (λ (c : Bool). p b or c) (any-snoc p l a) ∙ sym (or-assoc (p b) (any p l) (p a))
-
   any-take : (p : A → Bool) (l : List A) (j : ℕ) (z : A) → j < length l → any p (take (j + 1) l) ≡ (any p (take j l) or p (getD l j z))
   any-take p l j z h = rw (add-one, take-suc l j z h) (any-snoc p (take j l) (getD l j z))
 

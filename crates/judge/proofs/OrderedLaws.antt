@@ -39,6 +39,7 @@ use Rattle.model.proofs.Sound.{Sound, sound, getD-mem}
 use Rattle.model.proofs.HappensLaws.{step-inside, happens-inside, reader-inside, writer-inside, closed-tests}
 use Rattle.judge.specs.Tables.{agentIn, shapeIn, Tabled, Given, hbOf, Ordered}
 use Rattle.judge.specs.Steps.{metIn, directIn, Direct, rowStep, pairStep, Adds, Ends}
+use Rattle.judge.proofs.FindLaws.{any-same}
 
 -- ---- tests
 
@@ -61,11 +62,6 @@ sorted false false true true = refl
 sorted false false true false = refl
 sorted false false false true = refl
 sorted false false false false = refl
-
-pub any-same : {A : Type 0} (p q : A → Bool) (l : List A) → ((a : A) → List·Memᴰ a l → p a ≡ q a) → any p l ≡ any q l
-any-same p q l h = same-test (any p l) (any q l)
-    (λ t. let w = any-elim p l t in any-intro q l (w .0) (w .1) (subst T (h (w .0) (w .1)) (w .2)))
-    (λ t. let w = any-elim q l t in any-intro p l (w .0) (w .1) (subst T (sym (h (w .0) (w .1))) (w .2)))
 
 -- ---- the events of an execution, by the table
 

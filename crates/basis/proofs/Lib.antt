@@ -1,3 +1,4 @@
 pub mod TestLaws
 pub mod LoopLaws
 pub mod ListLaws
+pub mod SortedLaws

@@ -3,9 +3,10 @@
 --     front-at, front-past, front-length     a mapped front of a list
 --     from-length, from-at          the numbers from a start on
 --     last-at, snoc-split, each-snoc, two-snoc     a list with one entry more
+--     mem-getD, getD-mem            an entry of a list and its place
 use mathlib.Core.Path.{_≡_, refl, sym, ap, _∙_, subst}
 use mathlib.Core.Logic.{_⊎_, inl, inr, ⊎-elim}
-use mathlib.Core.List.{List, [], _∷_, _++_, map}
+use mathlib.Core.List.{List, [], _∷_, _++_, map, List·Memᴰ, List·Memᴰ·head, List·Memᴰ·tail}
 use Prim.Native.Nat.{ℕ, zero, suc, _+_, _-_, _≤_, _<_}
 use native.Mathlib.Omega.{arith}
 use lib.ListN.{length, getD, take, drop, length-drop, length-take, length-map, drop-of-length-le, length-append, List·getD-append, List·getD-eq-default}
@@ -73,3 +74,13 @@ module _ {A : Type 0} (d : A) where
       (λ e. let f : i < length l = omega arith in
       subst (λ (y : A). R (getD (l ++ (a ∷ [])) i d) y) (sym (List·getD-append l (a ∷ []) d j e)) (subst (λ (x : A). R x (getD l j d)) (sym (List·getD-append l (a ∷ []) d i f)) (h i j b e)))
       (snoc-split l a j c)
+
+module _ {A : Type 0} where
+  pub mem-getD : (d : A) {a : A} {l : List A} → List·Memᴰ a l → (i : ℕ) × (i < length l) × (getD l i d ≡ a)
+  mem-getD d (List·Memᴰ·head e) = (0, omega arith, sym e)
+  mem-getD d (List·Memᴰ·tail m) = let w = mem-getD d m in (suc (w .0), omega (arith, w .1), w .2)
+
+  pub getD-mem : (d : A) (l : List A) (i : ℕ) → i < length l → List·Memᴰ (getD l i d) l
+  getD-mem d [] i h = absurd (omega arith)
+  getD-mem d (a ∷ l) zero h = List·Memᴰ·head refl
+  getD-mem d (a ∷ l) (suc i) h = List·Memᴰ·tail (getD-mem d l i (omega arith))

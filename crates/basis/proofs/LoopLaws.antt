@@ -5,6 +5,8 @@
 --     number-snoc, all-number                   one entry more; all pass exactly when as many as there are
 --     and-holds, and-fails, or-holds, or-fails  a test that is known, on the left
 --     and-both, or-either, cond-cases           a test that passed, taken apart
+--     both-hold, or-second, non-holds           a test put together from tests that passed
+--     all-intro, none-intro, number-append      every entry passes, none does; two lists counted
 --     true-T, T-true, false-T, T-false          a test as an equation and as a fact
 use mathlib.Core.Path.{_≡_, refl, sym, ap, _∙_}
 use mathlib.Core.Bool.{Bool, true, false, cond, false≢true}
@@ -87,6 +89,19 @@ pub non-false : (b : Bool) → non b ≡ false → b ≡ true
 unfolding non
 non-false true e = refl
 non-false false e = sym e
+
+-- and put together
+pub both-hold : (a b : Bool) → a ≡ true → b ≡ true → (a and b) ≡ true
+both-hold a b p q = and-holds a b p ∙ q
+
+pub or-second : (a b : Bool) → b ≡ true → (a or b) ≡ true
+unfolding _or_
+or-second true b h = refl
+or-second false b h = h
+
+pub non-holds : (b : Bool) → b ≡ false → non b ≡ true
+unfolding non
+non-holds b h = ap non h
 
 module _ {A : Type 0} (p : A → Bool) (l : List A) where
   any-step : (i : ℕ) (d : A) → i < length l → any p (drop i l) ≡ (p (getD l i d) or any p (drop (i + 1) l))
@@ -171,3 +186,26 @@ module _ {A : Type 0} (p : A → Bool) where
       go : (x : Bool) → all p l ≡ eqb (number p l) (length l) → number p l ≤ length l → (x and all p l) ≡ eqb (cond x (suc (number p l)) (number p l)) (suc (length l))
       go true e h = e ∙ sym (eqb·suc-suc (number p l) (length l))
       go false e h = sym (ne-eqb _ _ (λ (q : number p l ≡ suc (length l)). omega arith))
+
+module _ {A : Type 0} (p : A → Bool) (d : A) where
+  pub all-intro : (l : List A) → ((i : ℕ) → i < length l → T (p (getD l i d))) → all p l ≡ true
+  unfolding all
+  all-intro [] h = refl
+  all-intro (a ∷ l) h = both-hold (p a) (all p l) (T-true _ (h 0 (omega arith))) (all-intro l (λ i b. h (suc i) (omega arith)))
+
+  pub none-intro : (l : List A) → ((i : ℕ) → i < length l → T (p (getD l i d)) → ⊥) → any p l ≡ false
+  unfolding any _or_
+  none-intro [] h = refl
+  none-intro (a ∷ l) h =
+      let e : p a ≡ false = T-false _ (h 0 (omega arith)) in
+      ap (λ (b : Bool). b or any p l) e ∙ none-intro l (λ i b. h (suc i) (omega arith))
+
+module _ {A : Type 0} (p : A → Bool) where
+  pub number-append : (l m : List A) → number p (l ++ m) ≡ number p l + number p m
+  unfolding number
+  number-append [] m = omega arith
+  number-append (a ∷ l) m = go (p a) (number-append l m)
+    where
+      go : (b : Bool) → number p (l ++ m) ≡ number p l + number p m → cond b (suc (number p (l ++ m))) (number p (l ++ m)) ≡ cond b (suc (number p l)) (number p l) + number p m
+      go true e = omega arith
+      go false e = e

@@ -2,9 +2,10 @@
 --     maxBytes      the longest sheet
 --     maxAgents     the most agents                 maxMemory     the most bytes of memory
 --     maxInits      the most inits                  maxOthers     the most other events, markers included
---     maxPairs      the most pairs                  slots         the places for events that a table has: the bits of a mask
+--     maxEvents     the most events of all          maxPairs      the most pairs
+--     slots         the places for events that a table has: the bits of a mask
 -- Assumes nothing.
-use Prim.Native.Nat.{ℕ}
+use Prim.Native.Nat.{ℕ, _+_}
 
 -- 01: "At most 4,096 bytes."
 abbrev pub maxBytes : ℕ
@@ -24,6 +25,9 @@ maxInits = 4
 -- 01: "at most 16 together, markers included"
 abbrev pub maxOthers : ℕ
 maxOthers = 16
+
+abbrev pub maxEvents : ℕ
+maxEvents = maxInits + maxOthers
 
 -- 01: "pairs rise strictly; at most 32"
 abbrev pub maxPairs : ℕ

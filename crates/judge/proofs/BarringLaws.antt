@@ -29,7 +29,8 @@ use Rattle.sheet.proofs.HandedLaws.{events-count, rows-count, row-at}
 use Rattle.model.specs.Events.{atRow}
 use Rattle.model.specs.Happens.{rowSyncs}
 use Rattle.model.specs.Bar.{barA, barB, barC, rowBars, bar}
-use Rattle.model.proofs.Sound.{Sound, sound, getD-mem}
+use Rattle.basis.proofs.ListLaws.{getD-mem}
+use Rattle.model.proofs.Sound.{Sound, sound}
 use Rattle.model.proofs.EventsLaws.{event-out}
 use Rattle.model.proofs.HappensLaws.{reader-inside, writer-inside}
 use Rattle.judge.specs.Tables.{shapeIn, Entry, Given, hbOf, Ordered, Barred}

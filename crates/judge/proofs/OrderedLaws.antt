@@ -35,7 +35,8 @@ use Rattle.sets.proofs.MaskLaws.{mem-empty, mem-lt, mem-beyond, ext-all}
 use Rattle.model.specs.Events.{anyTwo, atRow}
 use Rattle.model.specs.Happens.{agentOrder, rowSyncs, synchronises, initFirst, step, Tests}
 use Rattle.model.proofs.EventsLaws.{shape-mem, reads-covers, writes-covers}
-use Rattle.model.proofs.Sound.{Sound, sound, getD-mem}
+use Rattle.basis.proofs.ListLaws.{getD-mem}
+use Rattle.model.proofs.Sound.{Sound, sound}
 use Rattle.model.proofs.HappensLaws.{step-inside, happens-inside, reader-inside, writer-inside, closed-tests}
 use Rattle.judge.specs.Tables.{agentIn, shapeIn, Tabled, Given, hbOf, Ordered}
 use Rattle.judge.specs.Steps.{metIn, directIn, Direct, rowStep, pairStep, Adds, Ends}

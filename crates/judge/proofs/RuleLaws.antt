@@ -37,7 +37,8 @@ use Rattle.sets.proofs.BoolLaws.{not-both-ways, false-of, and-parts}
 use Rattle.sets.proofs.MaskLaws.{mem-and, mem-empty, mem-lt, remove-le, remove-old, remove-cases}
 use Rattle.model.specs.Events.{numbers}
 use Rattle.model.specs.Rules.{breaks21, breaks22, breaks23, breaks24, Fault, faulty, fault21, fault22, fault23, fault24, fault25, fault}
-use Rattle.model.proofs.Sound.{sound, getD-mem}
+use Rattle.basis.proofs.ListLaws.{getD-mem}
+use Rattle.model.proofs.Sound.{sound}
 use Rattle.model.proofs.HappensLaws.{reader-inside, writer-inside, happens-inside}
 use Rattle.model.proofs.RulesLaws.{test24}
 use Rattle.judge.specs.Tables.{shapeIn, Tabled, Given, hbOf, Ordered}

@@ -20,7 +20,7 @@ use lib.ListN.{length, getD, set, take, drop, replicate, length-set, getD-replic
 use lib.Seq.{take-suc, take-all, getD-set-same, getD-set-other}
 use Rattle.basis.specs.Test.{_and_, _or_, any, find, mapped, across, from}
 use Rattle.basis.proofs.TestLaws.{and-elim, and-intro, same-test, any-elim, any-intro, none-mapped, across-left, from-elim}
-use Rattle.basis.proofs.ListLaws.{from-length, from-at}
+use Rattle.basis.proofs.ListLaws.{from-length, from-at, mem-getD}
 use Rattle.basis.proofs.LoopLaws.{true-T, T-true, or-none, and-holds, and-fails, and-both}
 use Rattle.format.specs.Limits.{slots}
 use Rattle.format.specs.declared.Shape.{Shape}
@@ -40,7 +40,7 @@ use Rattle.model.specs.Events.{numbers, atRow, ofReader, ofWriter}
 use Rattle.model.specs.Rules.{untorn, untornFrom, breaks25, faulty, fault25}
 use Rattle.model.proofs.ShapeLaws.{equal-self}
 use Rattle.model.proofs.EventsLaws.{reads-covers, writes-covers}
-use Rattle.model.proofs.Sound.{Sound, sound, mem-getD}
+use Rattle.model.proofs.Sound.{Sound, sound}
 use Rattle.model.proofs.HappensLaws.{reader-inside, writer-inside}
 use Rattle.judge.specs.Tables.{shapeIn, Given}
 use Rattle.judge.specs.Found.{Inside, Rowed, untornIn, namesIn, With, Sources, twoOf, tornOf}

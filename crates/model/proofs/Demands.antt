@@ -9,6 +9,7 @@ use lib.ListN.{length, take, drop}
 use Rattle.format.specs.Execution.{Execution}
 use Rattle.sheet.specs.Parse.{whole, parse}
 use Rattle.sheet.proofs.PromiseLaws.{promise}
+use Rattle.sheet.proofs.DescribedLaws.{rowless-refused}
 use Rattle.sets.specs.Table.{cleared}
 use Rattle.orders.specs.Order.{Meets}
 use Rattle.orders.specs.First.{FirstOf}
@@ -28,7 +29,6 @@ use Rattle.model.proofs.Serial.{explains}
 use Rattle.model.proofs.JudgedLaws.{admitted-whole, whole-admitted, moved, same-whole, never-both, breaks-not, judged-unique}
 use Rattle.model.proofs.Outcome.{outcome}
 use Rattle.model.proofs.OutcomeLaws.{outcome-judged}
-use Rattle.model.proofs.DescribedLaws.{rowless-refused}
 use Rattle.model.proofs.OrderLaws.{begins}
 use Rattle.model.proofs.FirstLaws.{pair-lowest}
 use Rattle.model.proofs.Single.{one-access, reduced}

@@ -15,7 +15,6 @@ pub mod Warshall
 pub mod ClosureLaws
 pub mod SearchLaws
 pub mod OutcomeLaws
-pub mod DescribedLaws
 pub mod Demands
 pub mod Single
 pub mod Litmus

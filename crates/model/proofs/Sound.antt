@@ -1,5 +1,5 @@
 -- What the theorems need of an execution, over membership in the lists; it follows from what the reader promises. Assumes nothing.
---     Sound x, sound     of a well-formed execution              mem-getD, getD-mem     an entry of a list and its place
+--     Sound x, sound     of a well-formed execution
 use mathlib.Core.Path.{_≡_, refl, sym, subst}
 use mathlib.Core.Bool.{Bool, true, false, cond}
 use mathlib.Core.List.{List, [], _∷_, List·Memᴰ, List·Memᴰ·head, List·Memᴰ·tail, List·Memᴰ·eq-of-singleton}
@@ -11,6 +11,7 @@ use lib.ListN.{length, getD}
 use Rattle.basis.specs.Test.{number}
 use Rattle.basis.proofs.TestLaws.{any-intro, any-elim}
 use Rattle.basis.proofs.LoopLaws.{true-T}
+use Rattle.basis.proofs.ListLaws.{mem-getD, getD-mem}
 use Rattle.format.specs.declared.Row.{Row}
 use Rattle.format.specs.declared.Pair.{Pair}
 use Rattle.format.specs.Shape.{marks, overlap}
@@ -34,16 +35,6 @@ pub record Sound (x : Execution) : Type 0 where
   pub init-low : (e : ℕ) → e < inits (x .events) → T (isInit (event x e))
   pub init-access : (e : ℕ) → T (isInit (event x e)) → (a : Access) → List·Memᴰ a (event x e .accesses) → (a .shape .kind ≡ 2) × (a .shape .mode ≡ 0)
   pub init-apart : (e d : ℕ) → T (isInit (event x e)) → T (isInit (event x d)) → (e ≡ d → ⊥) → T (anyTwo overlap (event x e) (event x d)) → ⊥
-
-module _ {A : Type 0} where
-  pub mem-getD : (d : A) {a : A} {l : List A} → List·Memᴰ a l → (i : ℕ) × (i < length l) × (getD l i d ≡ a)
-  mem-getD d (List·Memᴰ·head e) = (0, omega arith, sym e)
-  mem-getD d (List·Memᴰ·tail m) = let w = mem-getD d m in (suc (w .0), omega (arith, w .1), w .2)
-
-  pub getD-mem : (d : A) (l : List A) (i : ℕ) → i < length l → List·Memᴰ (getD l i d) l
-  getD-mem d [] i h = absurd (omega arith)
-  getD-mem d (a ∷ l) zero h = List·Memᴰ·head refl
-  getD-mem d (a ∷ l) (suc i) h = List·Memᴰ·tail (getD-mem d l i (omega arith))
 
 -- where the events that pass stand in front, the first so many are those
 front : (f : Event → Bool) (l : List Event) → ((e d : ℕ) → e < d → d < length l → T (f (getD l d nobody)) → T (f (getD l e nobody)))

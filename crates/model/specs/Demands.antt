@@ -18,6 +18,7 @@ use Rattle.format.specs.Event.{readsAt}
 use Rattle.format.specs.Execution.{Execution, event, inits}
 use Rattle.sheet.specs.Parse.{whole, parse}
 use Rattle.sheet.specs.Promise.{OneRow}
+use Rattle.sheet.specs.Described.{described, Rowless}
 use Rattle.orders.specs.Order.{Meets}
 use Rattle.orders.specs.First.{FirstOf}
 use Rattle.orders.specs.Inits.{Begins}
@@ -31,7 +32,6 @@ use Rattle.model.specs.Order.{problem}
 use Rattle.model.specs.Unsettled.{unsettled, unsettledPair, Orderly}
 use Rattle.model.specs.Memory.{Explains}
 use Rattle.model.specs.Judged.{needed, Breaks, Judged}
-use Rattle.model.specs.Described.{described, Rowless}
 use Rattle.model.specs.Sentences.{Reduced}
 use Rattle.model.specs.Litmus.{Entry}
 

@@ -6,7 +6,7 @@ pub mod Order
 pub mod Unsettled
 pub mod Memory
 pub mod Judged
-pub mod Described
+pub mod Verdict
 pub mod Sentences
 pub mod Litmus
 pub mod Further

@@ -4,6 +4,7 @@ pub mod BetweenLaws
 pub mod CompleteLaws
 pub mod ContentLaws
 pub mod PromiseLaws
+pub mod DescribedLaws
 pub mod AgreementLaws
 pub mod RefusalLaws
 pub mod Examples

@@ -10,14 +10,15 @@ use native.Mathlib.Omega.{arith}
 use lib.Dec.{ltb, eqb}
 use lib.ListN.{length}
 use Rattle.basis.specs.Test.{non, any}
+use Rattle.basis.proofs.ListLaws.{getD-mem}
 use Rattle.format.specs.Limits.{maxBytes}
 use Rattle.format.specs.Event.{readsSome}
-use Rattle.format.specs.Execution.{Execution}
+use Rattle.format.specs.Execution.{Execution, noRow}
 use Rattle.format.specs.Field.{nextAt}
 use Rattle.sheet.specs.Parse.{Parsed, refused, whole, placeOf, State, blank, faultAt, after, lowestLacking, completed, finish, fieldsFrom, parse}
+use Rattle.sheet.specs.Promise.{row}
 use Rattle.sheet.proofs.PromiseLaws.{promise}
-use Rattle.model.specs.Described.{fieldsTaken, described, Rowless}
-use Rattle.model.proofs.Sound.{sound}
+use Rattle.sheet.specs.Described.{fieldsTaken, described, Rowless}
 
 not-whole : {A : Type 0} {n p : ℕ} {x : Execution} → refused n p ≡ whole x → A
 not-whole e = let z : _≡_ {A = ℕ} 0 1 = cc in absurd (omega arith)
@@ -63,5 +64,5 @@ parse-described s x e = go (ltb maxBytes (length s)) e
 pub rowless-refused : (s : List ℕ) → Rowless (described s) → (x : Execution) → parse s ≡ whole x → ⊥
 rowless-refused s r x e =
     let q = subst Rowless (sym (parse-described s x e)) r in
-    let w = sound x (promise s x e) .has-row (q .reader) (q .byte) (q .reads) in
-    q .no-row (w .0) (w .1) (w .2) (w .3)
+    let w = promise s x e .row-for-each (q .0) (q .1 .byte) (q .1 .reads) in
+    q .1 .no-row (row x (w .number)) (getD-mem noRow (x .rows) (w .number) (w .there)) (w .reader) (w .address)

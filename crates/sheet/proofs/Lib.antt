@@ -5,6 +5,7 @@ pub mod CompleteLaws
 pub mod ContentLaws
 pub mod PromiseLaws
 pub mod DescribedLaws
+pub mod FormedLaws
 pub mod AgreementLaws
 pub mod RefusalLaws
 pub mod Examples

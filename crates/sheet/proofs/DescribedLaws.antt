@@ -1,6 +1,7 @@
 -- The laws of specs/Described.antt. Assumes nothing.
 --     parse-described     where a sheet is not refused, it describes what its fields describe
 --     rowless-refused     a sheet with a read byte without a row describes no execution
+--     not-whole           a refusal is no execution
 use mathlib.Core.Path.{_≡_, sym, subst}
 use mathlib.Core.Bool.{Bool, true, false, cond}
 use mathlib.Core.List.{List}
@@ -20,7 +21,7 @@ use Rattle.sheet.specs.Promise.{row}
 use Rattle.sheet.proofs.PromiseLaws.{promise}
 use Rattle.sheet.specs.Described.{fieldsTaken, described, Rowless}
 
-not-whole : {A : Type 0} {n p : ℕ} {x : Execution} → refused n p ≡ whole x → A
+pub not-whole : {A : Type 0} {n p : ℕ} {x : Execution} → refused n p ≡ whole x → A
 not-whole e = let z : _≡_ {A = ℕ} 0 1 = cc in absurd (omega arith)
 
 completed-whole : (st : State) (o : Option ℕ) (x : Execution) → completed st o ≡ whole x → x ≡ st .got

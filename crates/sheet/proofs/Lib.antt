@@ -6,6 +6,7 @@ pub mod ContentLaws
 pub mod PromiseLaws
 pub mod DescribedLaws
 pub mod FormedLaws
+pub mod FramedLaws
 pub mod AgreementLaws
 pub mod RefusalLaws
 pub mod Examples

@@ -7,6 +7,7 @@ pub mod PromiseLaws
 pub mod DescribedLaws
 pub mod FormedLaws
 pub mod FramedLaws
+pub mod WellSheetLaws
 pub mod AgreementLaws
 pub mod RefusalLaws
 pub mod Examples

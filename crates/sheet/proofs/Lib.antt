@@ -3,6 +3,7 @@ pub mod ParseLaws
 pub mod BetweenLaws
 pub mod CompleteLaws
 pub mod ContentLaws
+pub mod LackLaws
 pub mod PromiseLaws
 pub mod DescribedLaws
 pub mod AgreementLaws

@@ -1,5 +1,5 @@
 -- The test `lacks` of specs/Parse.antt and what it stands for, `RowlessAt` of specs/Described.antt. Assumes nothing.
---     is-event                      who reads is an event
+--     is-event                      what nobody does is done by an event
 --     rowless-lacks, lacks-rowless  from a read byte without a row to the test; and back, for an event with one access
 --     has-row                       where no event lacks a row, each byte that is read has one
 --     lowest-rowless                the event that `lowestLacking` names is the lowest with a read byte without a row
@@ -28,14 +28,14 @@ use Rattle.format.proofs.LayoutLaws.{covered}
 use Rattle.sheet.specs.Parse.{isRow, lacks, lowestLacking}
 use Rattle.sheet.specs.Described.{RowlessAt}
 
--- who reads is an event
-pub is-event : (x : Execution) (e n : ℕ) → T (readsAt (event x e) n) → e < length (x .events)
+-- what nobody does is done by an event
+pub is-event : (f : Event → Bool) → f nobody ≡ false → (x : Execution) (e : ℕ) → T (f (event x e)) → e < length (x .events)
 unfolding event eventNo
-is-event x e n t = go (ltb e (length (x .events))) refl
+is-event f z x e t = go (ltb e (length (x .events))) refl
   where
     go : (b : Bool) → ltb e (length (x .events)) ≡ b → e < length (x .events)
     go true p = ltb-true _ _ p
-    go false p = absurd (false-T _ (readsAt-nobody n) (subst (λ (d : Event). T (readsAt d n)) (List·getD-eq-default (x .events) nobody (ltb-false _ _ p)) t))
+    go false p = absurd (false-T _ z (subst (λ (d : Event). T (f d)) (List·getD-eq-default (x .events) nobody (ltb-false _ _ p)) t))
 
 -- an access that covers byte n is one of the event's
 module _ (n : ℕ) where
@@ -116,7 +116,7 @@ has-row x l e n t = go (decide (any (isRow e n) (x .rows)))
     go : T (any (isRow e n) (x .rows)) ⊎ (T (any (isRow e n) (x .rows)) → ⊥) → any (isRow e n) (x .rows) ≡ true
     go (inl y) = T-true _ y
     go (inr h) =
-        let b = is-event x e n t in
+        let b = is-event (λ (d : Event). readsAt d n) (readsAt-nobody n) x e t in
         absurd (find-none (lacking x) (from 0 (length (x .events))) l e (from-mem (length (x .events)) 0 e (omega arith) (omega arith))
         (rowless-lacks x e (record { byte = n; reads = t; no-row = λ r m i j. h (row-found x e n r m i j) })))
 

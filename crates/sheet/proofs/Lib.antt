@@ -4,6 +4,7 @@ pub mod BetweenLaws
 pub mod CompleteLaws
 pub mod ContentLaws
 pub mod LackLaws
+pub mod LadderLaws
 pub mod PromiseLaws
 pub mod DescribedLaws
 pub mod AgreementLaws

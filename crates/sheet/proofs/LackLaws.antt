@@ -1,8 +1,10 @@
--- The test `lacks` of specs/Parse.antt and what it stands for, `RowlessAt` of specs/Described.antt. Assumes nothing.
---     is-event                      what nobody does is done by an event
+-- The test `lacks` of specs/Parse.antt and what it stands for, `RowlessAt` of specs/Described.antt.
+--     is-event                      who does what `nobody` does not is an event
 --     rowless-lacks, lacks-rowless  from a read byte without a row to the test; and back, for an event with one access
 --     has-row                       where no event lacks a row, each byte that is read has one
---     lowest-rowless                the event that `lowestLacking` names is the lowest with a read byte without a row
+--     OneAccess                     an event with one access
+--     lowest-rowless                where all are such, the event that `lowestLacking` names is the lowest with a read byte without a row
+-- Assumes nothing.
 use mathlib.Core.Path.{_≡_, refl, sym, ap, _∙_, subst}
 use mathlib.Core.Logic.{_⊎_, inl, inr}
 use mathlib.Core.Bool.{Bool, true, false, cond}
@@ -28,7 +30,7 @@ use Rattle.format.proofs.LayoutLaws.{covered}
 use Rattle.sheet.specs.Parse.{isRow, lacks, lowestLacking}
 use Rattle.sheet.specs.Described.{RowlessAt}
 
--- what nobody does is done by an event
+-- who does what `nobody` does not is an event
 pub is-event : (f : Event → Bool) → f nobody ≡ false → (x : Execution) (e : ℕ) → T (f (event x e)) → e < length (x .events)
 unfolding event eventNo
 is-event f z x e t = go (ltb e (length (x .events))) refl
@@ -123,8 +125,10 @@ has-row x l e n t = go (decide (any (isRow e n) (x .rows)))
 from-zero : (n i : ℕ) → i < n → getD (from 0 n) i 0 ≡ i
 from-zero n i h = from-at 0 n i 0 h ∙ zero-add i
 
--- the events have one access each
-pub lowest-rowless : (x : Execution) (e : ℕ) → ((d : ℕ) → d < length (x .events) → (a : Access) × (event x d .accesses ≡ a ∷ [])) → lowestLacking x ≡ some e
+abbrev pub OneAccess : Event → Type 0
+OneAccess d = (a : Access) × (d .accesses ≡ a ∷ [])
+
+pub lowest-rowless : (x : Execution) (e : ℕ) → ((d : ℕ) → d < length (x .events) → OneAccess (event x d)) → lowestLacking x ≡ some e
     → (e < length (x .events)) × RowlessAt x e × ((d : ℕ) → d < e → RowlessAt x d → ⊥)
 unfolding lowestLacking event
 lowest-rowless x e o l =

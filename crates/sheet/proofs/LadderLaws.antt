@@ -1,7 +1,8 @@
--- The ladders of tests of specs/Parse.antt: a field's fault has a row in 01's table, specs/Refusal.antt. Assumes nothing.
+-- The ladders of tests of specs/Parse.antt: a field's fault has a row in 01's table, specs/Refusal.antt.
 --     lastTag s k     the tag before field number k, 0 where it is the first
 --     rung            one rung of a ladder
 --     blamed          the number that `faultAt` gives is one that the field can be refused by
+-- Assumes nothing.
 use mathlib.Core.Path.{_≡_, refl, sym, _∙_, subst}
 use mathlib.Core.Logic.{_⊎_, inl, inr}
 use mathlib.Core.Bool.{Bool, true, false, cond, false≢true}

@@ -10,7 +10,7 @@
 use mathlib.Core.Path.{_≡_, refl, sym, ap, _∙_, subst}
 use mathlib.Core.Logic.{_⊎_, inl, inr, ⊎-elim}
 use mathlib.Core.Bool.{Bool, true, false, cond}
-use mathlib.Core.List.{List, [], _∷_, _++_, append-assoc, append-nil, List·Memᴰ, List·Memᴰ·head, List·Memᴰ·eq-of-singleton}
+use mathlib.Core.List.{List, [], _∷_, _++_, append-assoc, append-nil, List·Memᴰ, List·Memᴰ·head}
 use mathlib.Core.Option.{none}
 use Prim.Native.Nat.{ℕ, _+_, _-_, _<_, _≤_}
 use native.Mathlib.Omega.{arith}
@@ -20,21 +20,22 @@ use lib.Dec.{T, eqb, ltb, leb}
 use lib.ListN.{length, getD, length-append, List·getD-append}
 use lib.Seq.{getD-append-seam}
 use Rattle.basis.specs.Test.{_and_, _or_, non, any, all, number, from}
-use Rattle.basis.proofs.TestLaws.{and-elim, non-elim, any-elim, none-find, from-elim}
+use Rattle.basis.proofs.TestLaws.{none-find, from-elim}
+use Rattle.basis.proofs.ListLaws.{getD-mem}
 use Rattle.basis.proofs.LoopLaws.{true-T, T-true, or-holds, both-hold, or-second, non-holds, any-at, all-intro, none-intro, number-append, number-snoc}
 use Rattle.format.specs.declared.Head.{Head}
 use Rattle.format.specs.declared.Shape.{Shape}
 use Rattle.format.specs.declared.Row.{Row}
 use Rattle.format.specs.declared.Pair.{Pair}
 use Rattle.format.specs.Limits.{maxAgents, maxMemory, maxInits, maxOthers, maxPairs}
-use Rattle.format.specs.Shape.{reads, initial, sc, divides, covers}
-use Rattle.format.specs.Event.{Access, Event, nobody, isInit, meets, readsAt, readsSome}
+use Rattle.format.specs.Shape.{initial, sc, divides}
+use Rattle.format.specs.Event.{Access, Event, nobody, isInit, meets, readsSome}
 use Rattle.format.specs.Execution.{Execution, eventNo, event, inits, others, rowBelow, pairBelow, noRow, noPair}
 use Rattle.format.specs.Layout.{headBytes, eventBytes, rowBytes, pairBytes, headOf, agentOf, shapeOf, accessOf, eventOf, rowOf, pairOf}
-use Rattle.format.proofs.EventLaws.{one, readsAt-one}
 use Rattle.sheet.specs.Content.{within, headFits, inside, initFormed, sized, kindFits, otherFormed, formed, standsFirst, eventFits, dataBytes, roomFor, joins, rowRises, rowFits, parts, pairRises, pairFits}
-use Rattle.sheet.specs.Parse.{whole, State, headFault, eventFault, rowFault, pairFault, isRow, lacks, lowestLacking, completed, finish}
-use Rattle.sheet.specs.Promise.{WellEvent, WellFormed}
+use Rattle.sheet.specs.Parse.{whole, State, headFault, eventFault, rowFault, pairFault, lacks, lowestLacking, completed, finish}
+use Rattle.sheet.specs.Promise.{WellEvent, WellFormed, row}
+use Rattle.sheet.proofs.LackLaws.{lacks-rowless}
 
 -- ---- tests
 
@@ -264,31 +265,13 @@ module _ (x : Execution) (w : WellFormed x) where
 
 -- ---- after all fields
 
--- an access of a well-formed event that reads and covers byte n: the event reads the byte
-reads-byte : (h : Head) (d : Event) → WellEvent h d → (a : Access) → List·Memᴰ a (d .accesses) → T (reads (a .shape)) → (n : ℕ)
-    → a .shape .start ≤ n → n < a .shape .start + a .shape .width → T (readsAt d n)
-unfolding covers
-reads-byte h d w a m t n lo hi =
-    let e : a ≡ w .access = List·Memᴰ·eq-of-singleton (subst (List·Memᴰ a) (w .one-access) m) in
-    let o : one (d .agent) a ≡ d = ap (λ (b : Access). one (d .agent) b) e ∙ ap (λ (l : List Access). record { agent = d .agent; accesses = l }) (sym (w .one-access)) in
-    let c : covers (a .shape) n ≡ true = both-hold (leb (a .shape .start) n) (ltb n (a .shape .start + a .shape .width)) (le-leb _ _ lo) (lt-ltb _ _ hi) in
-    subst (λ (y : Event). T (readsAt y n)) o (true-T _ (readsAt-one (d .agent) a n ∙ both-hold (covers (a .shape) n) (reads (a .shape)) c (T-true _ t)))
-
 module _ (x : Execution) (w : WellFormed x) where
-  has-row : (e n : ℕ) → T (readsAt (event x e) n) → T (any (isRow e n) (x .rows))
-  unfolding isRow
-  has-row e n t =
-      let o = w .row-for-each e n t in
-      true-T _ (any-at (isRow e n) (x .rows) (o .number) noRow (o .there) (both-hold _ _ (eq-eqb _ _ (o .reader)) (eq-eqb _ _ (o .address))))
-
   lacks-none : (e : ℕ) → e < length (x .events) → T (lacks (x .rows) e (event x e)) → ⊥
-  unfolding lacks
   lacks-none e b t =
-      let q = any-elim (λ (a : Access). reads (a .shape) and any (λ (n : ℕ). non (any (isRow e n) (x .rows))) (from (a .shape .start) (a .shape .width))) (event x e .accesses) t in
-      let r = and-elim (reads (q .0 .shape)) (any (λ (n : ℕ). non (any (isRow e n) (x .rows))) (from (q .0 .shape .start) (q .0 .shape .width))) (q .2) in
-      let u = any-elim (λ (n : ℕ). non (any (isRow e n) (x .rows))) (from (q .0 .shape .start) (q .0 .shape .width)) (r .1) in
-      let c = from-elim (q .0 .shape .width) (q .0 .shape .start) (u .0) (u .1) in
-      non-elim (any (isRow e (u .0)) (x .rows)) (u .2) (has-row e (u .0) (reads-byte (x .head) (event x e) (w .events e b) (q .0) (q .1) (r .0) (u .0) (c .0) (c .1)))
+      let v = w .events e b in
+      let r = lacks-rowless x e (v .access) (v .one-access) t in
+      let o = w .row-for-each e (r .byte) (r .reads) in
+      r .no-row (row x (o .number)) (getD-mem noRow (x .rows) (o .number) (o .there)) (o .reader) (o .address)
 
   no-lack : lowestLacking x ≡ none
   unfolding lowestLacking event

@@ -1,5 +1,4 @@
--- The laws of specs/Framed.antt, and of `fieldsTaken` (specs/Described.antt) on a framed sheet.
---     taken-end, taken-next         what the fields describe, field by field
+-- The laws of specs/Framed.antt, and what the fields of a framed sheet describe.
 --     NoHead, sits-tag              the tag of an event, a row, a pair, which a field that sits has
 --     Grown, grown                  what was read stays, with more behind it, and no event behind a row or a pair
 --     accepted-framed               a sheet that is not refused is short and framed
@@ -10,7 +9,7 @@ use mathlib.Core.Bool.{Bool, true, false, cond}
 use mathlib.Core.List.{List}
 use Prim.Native.Nat.{ℕ, zero, suc, _+_, _-_, _<_, _≤_}
 use native.Mathlib.Omega.{arith}
-use borrow.Author.Tests.{eqb-true, eqb-false, ltb-true, ltb-false, le-ltb, lt-ltb}
+use borrow.Author.Tests.{eqb-true, eqb-false, ltb-true, ltb-false}
 use lib.Dec.{eqb, ltb}
 use lib.ListN.{length}
 use Rattle.format.specs.declared.Head.{Head}
@@ -23,20 +22,8 @@ use Rattle.sheet.specs.Described.{fieldsTaken}
 use Rattle.sheet.specs.Framed.{Sits, Fields, no-more, one-more, Framed}
 use Rattle.sheet.proofs.ParseLaws.{no-fault-non, inside, value-length, was-none, was-2, was-3, was-4, known, head-clean, event-clean, row-length, pair-length, at-end, at-fault, at-field}
 use Rattle.sheet.proofs.BetweenLaws.{event-length}
-use Rattle.sheet.proofs.DescribedLaws.{not-whole}
+use Rattle.sheet.proofs.DescribedLaws.{taken-end, taken-next, not-whole}
 use Rattle.sheet.proofs.FormedLaws.{one-of-three, Front, front-all, front-less}
-
--- ---- what the fields describe, field by field
-
-module _ (s : List ℕ) (k p : ℕ) (st : State) where
-  pub taken-end : length s ≤ p → st .got ≡ fieldsTaken s (suc k) p st .got
-  unfolding fieldsTaken
-  taken-end h = rw (le-ltb p (length s) h, fieldsTaken)
-
-  -- with the fuel that is left
-  pub taken-next : p < length s → length s ≤ k + p → fieldsTaken s (suc (k - 1)) (nextAt s p) (after s p st) .got ≡ fieldsTaken s (suc k) p st .got
-  unfolding fieldsTaken
-  taken-next h b = let n : suc (k - 1) ≡ k = omega arith in rw (lt-ltb p (length s) h, fieldsTaken) (ap (λ (j : ℕ). fieldsTaken s j (nextAt s p) (after s p st) .got) n)
 
 abbrev pub NoHead : ℕ → Type 0
 NoHead tag = (tag ≡ 2) ⊎ (tag ≡ 3) ⊎ (tag ≡ 4)
@@ -94,13 +81,16 @@ grown-more last tag y x v (inr (inr e)) b h =
       all-events = λ l. g .all-events (omega arith);
     }
 
+abbrev pub got : State → Execution
+got st = st .got
+
 module _ (s : List ℕ) (x : Execution) where
   pub grown : {edition p last : ℕ} → Fields s edition p last → (k : ℕ) (st : State) → length s ≤ k + p → fieldsTaken s (suc k) p st .got ≡ x → Grown last (st .got) x
   unfolding after
-  grown (no-more p last e) k st b d = subst (Grown last (st .got)) (taken-end s k p st (omega arith) ∙ d) (grown-none last (st .got))
+  grown (no-more p last e) k st b d = subst (Grown last (st .got)) (ap got (sym (taken-end s k p st (omega arith))) ∙ d) (grown-none last (st .got))
   grown (one-more p last i f) k st b d =
       let j = i .inside in
-      grown-more last (tagAt s p) (st .got) x (valueAt s p) (sits-tag i) (i .rises) (grown f (k - 1) (after s p st) (omega arith) (taken-next s k p st (omega arith) b ∙ d))
+      grown-more last (tagAt s p) (st .got) x (valueAt s p) (sits-tag i) (i .rises) (grown f (k - 1) (after s p st) (omega arith) (ap got (taken-next s k p st (omega arith) b) ∙ d))
 
 -- ---- a sheet that is not refused is framed
 

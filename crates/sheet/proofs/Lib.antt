@@ -3,6 +3,8 @@ pub mod ParseLaws
 pub mod BetweenLaws
 pub mod CompleteLaws
 pub mod ContentLaws
+pub mod LackLaws
+pub mod LadderLaws
 pub mod PromiseLaws
 pub mod DescribedLaws
 pub mod FormedLaws

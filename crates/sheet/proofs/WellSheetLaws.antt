@@ -23,9 +23,9 @@ use Rattle.sheet.specs.Framed.{Long, Fields, no-more, one-more}
 use Rattle.sheet.specs.WellSheet.{WellSheet, Exactly}
 use Rattle.sheet.proofs.ParseLaws.{at-start, at-end, at-next}
 use Rattle.sheet.proofs.PromiseLaws.{promise}
-use Rattle.sheet.proofs.DescribedLaws.{parse-described}
+use Rattle.sheet.proofs.DescribedLaws.{taken-end, taken-next, parse-described}
 use Rattle.sheet.proofs.FormedLaws.{passed, passed-non, within-holds, head-passes, event-passes, row-passes, pair-passes, ends}
-use Rattle.sheet.proofs.FramedLaws.{taken-end, taken-next, NoHead, sits-tag, Grown, grown, accepted-framed}
+use Rattle.sheet.proofs.FramedLaws.{got, NoHead, sits-tag, Grown, grown, accepted-framed}
 
 pub accepted-well : (s : List ℕ) (x : Execution) → parse s ≡ whole x → WellSheet s x
 accepted-well s x e =
@@ -66,11 +66,11 @@ module _ (s : List ℕ) (x : Execution) (w : WellFormed x) where
   walk : {p last : ℕ} → Fields s (x .head .edition) p last → (k : ℕ) (st : State) → length s ≤ k + p → 1 ≤ last → st .tag ≡ last → st .got .head ≡ x .head
       → fieldsTaken s (suc k) p st .got ≡ x → fieldsFrom s (suc k) p st ≡ whole x
   unfolding after
-  walk (no-more p last e) k st b l t h d = at-end s k p st (omega arith) ∙ ends x w s st (omega arith) (taken-end s k p st (omega arith) ∙ d)
+  walk (no-more p last e) k st b l t h d = at-end s k p st (omega arith) ∙ ends x w s st (omega arith) (ap got (sym (taken-end s k p st (omega arith))) ∙ d)
   walk (one-more p last i f) k st b l t h d =
       let j = i .inside in
       let m = i .rises in
-      let c = taken-next s k p st (omega arith) b ∙ d in
+      let c = ap got (taken-next s k p st (omega arith) b) ∙ d in
       let g = grown s x f (k - 1) (after s p st) (omega arith) c in
       let v = value-passes x w (st .got) (tagAt s p) (valueAt s p) (sits-tag i) (i .long) h g in
       let z = field-passes s p st j (allows-to (tagAt s p) (st .tag) (sits-tag i) (omega arith) (omega arith)) v in
@@ -82,7 +82,7 @@ well-accepted s x w =
     let f = w .framed in
     let i = f .inside in
     let st = after s 0 blank in
-    let d = taken-next s (length s) 0 blank (omega arith) (omega arith) ∙ w .describes in
+    let d = ap got (taken-next s (length s) 0 blank (omega arith) (omega arith)) ∙ w .describes in
     let g = grown s x (f .fields) (length s - 1) st (omega arith) d in
     let h : headOf (valueAt s 0) ≡ x .head = rw (f .head) at (g .head) in
     let z = field-passes s 0 blank i (rw (f .head)) (rw (f .head) (head-passes x (w .well-formed) (valueAt s 0) h (f .long))) in

@@ -1,4 +1,4 @@
--- Which answers the word can hold, and which of them it tells apart (01, What comes back). Laws: proofs/WordLaws.antt.
+-- Which answers the word can hold, and which of them it tells apart (01, What comes back). Laws: proofs/WordLaws.antt, proofs/ReadLaws.antt.
 --     Below m n         the name n is none, or a number below m
 --     FourBelow m f     each of four names is
 --     Fits m x          x's number is a byte, its place four bytes, its names are below m

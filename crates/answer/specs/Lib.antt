@@ -3,4 +3,5 @@ pub mod Number
 pub mod NameOf
 pub mod Word
 pub mod Fit
+pub mod Read
 pub mod Demands

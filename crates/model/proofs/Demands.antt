@@ -1,20 +1,28 @@
 -- Each claim of specs/Demands.antt. Assumes nothing.
-use mathlib.Core.Path.{_≡_, refl, _∙_, ap}
+use mathlib.Core.Path.{_≡_, refl, sym, subst, _∙_, ap, ap₂}
+use mathlib.Core.Logic.{⊎-elim}
 use mathlib.Core.Bool.{Bool}
 use mathlib.Core.List.{List, _++_}
 use mathlib.Core.Option.{Option, none, some}
 use Prim.Native.Nat.{ℕ, _≤_}
 use native.Mathlib.Omega.{arith}
 use lib.ListN.{length, take, drop}
-use Rattle.format.specs.Execution.{Execution}
+use lib.Seq.{take-take}
+use Rattle.basis.specs.Test.{from}
+use Rattle.format.specs.Execution.{Execution, inits}
 use Rattle.sheet.specs.Parse.{whole, parse}
-use Rattle.sheet.proofs.PromiseLaws.{promise}
+use Rattle.sheet.specs.Described.{described, Rowless}
+use Rattle.sheet.specs.WellSheet.{WellSheet}
 use Rattle.sheet.proofs.DescribedLaws.{rowless-refused}
+use Rattle.sheet.proofs.PromiseLaws.{promise}
+use Rattle.sheet.proofs.WellSheetLaws.{exactly}
+use Rattle.sheet.proofs.RefusalLaws.{refusal}
 use Rattle.sets.specs.Table.{cleared}
 use Rattle.orders.specs.Order.{Meets}
 use Rattle.orders.specs.First.{FirstOf}
+use Rattle.orders.proofs.InitsLaws.{first-inits}
 use Rattle.answer.specs.declared.Settled.{Settled}
-use Rattle.answer.specs.declared.Settled.the-variants.{Orderly as AllSettled}
+use Rattle.answer.specs.declared.Settled.the-variants.{Orderly as AllSettled, Unsettled}
 use Rattle.answer.specs.declared.Answer.{Answer}
 use Rattle.answer.specs.declared.Answer.the-variants.{Refused, Broken, Consistent}
 use Rattle.model.specs.Happens.{Tests}
@@ -22,26 +30,38 @@ use Rattle.model.specs.Rules.{faulty, fault}
 use Rattle.model.specs.Order.{problem}
 use Rattle.model.specs.Unsettled.{unsettledPair}
 use Rattle.model.specs.Judged.{needed, Breaks, settledOf, JudgedConsistent, Judged}
-use Rattle.model.specs.Demands.{Answered, Agreement, Allowed, Meant, Demand2, Demand3, NoRowRefused, Rowed, OneRowEach, Reduction, InitsFirst, LowestPair}
+use Rattle.model.specs.Demands.{IsRefused, Result, Refuses, by-sheet, short-scratch, short-order, Demand1, Allowed, Meant, Demand2, Demand3, Agreement, SaysTheVerdict, OneVerdict, Rowed, OneRowEach, FitsWord, SameWord, InitsFirst, FirstNamed, LowestPair, Reduction}
 use Rattle.model.proofs.Sound.{Sound, sound}
 use Rattle.model.proofs.UnsettledLaws.{none-orderly, orderly-none}
 use Rattle.model.proofs.Serial.{explains}
-use Rattle.model.proofs.JudgedLaws.{admitted-whole, whole-admitted, moved, same-whole, never-both, breaks-not, judged-unique}
+use Rattle.model.proofs.JudgedLaws.{admitted-whole, whole-admitted, Short, scratch-short, order-short, refused-cases, moved, same-whole, never-both, breaks-not, judged-unique}
 use Rattle.model.proofs.Outcome.{outcome}
 use Rattle.model.proofs.OutcomeLaws.{outcome-judged}
-use Rattle.model.proofs.OrderLaws.{begins}
+use Rattle.model.proofs.OrderLaws.{inits-others, begins}
 use Rattle.model.proofs.FirstLaws.{pair-lowest}
+use Rattle.model.proofs.LowestLaws.{breaks-first}
+use Rattle.model.proofs.VerdictLaws.{judged-verdict, verdict-unique}
+use Rattle.model.proofs.FitLaws.{judged-fits, same-word}
 use Rattle.model.proofs.Single.{one-access, reduced}
+
+-- a well-formed sheet is read as what it describes
+whole-of : (s : List ℕ) (x : Execution) → WellSheet s x → parse s ≡ whole x
+whole-of s x w = exactly s x .1 w
 
 sounds : (s : List ℕ) (x : Execution) → parse s ≡ whole x → Sound x
 sounds s x e = sound x (promise s x e)
 
 -- ---- demand 2
 
-settled-orderly : (o : Option (ℕ × ℕ)) → AllSettled ≡ settledOf o → o ≡ none
+settled-cases : (o : Option (ℕ × ℕ)) → AllSettled ≡ settledOf o → o ≡ none
 unfolding settledOf
-settled-orderly none e = refl
-settled-orderly (some p) e = let z : _≡_ {A = ℕ} 0 1 = cc in absurd (omega arith)
+settled-cases none e = refl
+settled-cases (some p) e = let z : _≡_ {A = ℕ} 0 1 = cc in absurd (omega arith)
+
+unsettled-is : (o : Option (ℕ × ℕ)) (e d : ℕ) → Unsettled e d ≡ settledOf o → o ≡ some (e, d)
+unfolding settledOf
+unsettled-is none e d q = let z : _≡_ {A = ℕ} 0 1 = cc in absurd (omega arith)
+unsettled-is (some p) e d q = let a : p .0 ≡ e = cc in let b : p .1 ≡ d = cc in ap₂ (λ (i j : ℕ). some (i, j)) a b
 
 module _ (s scratch order : List ℕ) (x : Execution) (hb : ℕ → ℕ → Bool) (tests : Tests x hb) (scratch′ order′ : List ℕ) where
   -- what a consistent answer says, in terms of x and hb
@@ -68,6 +88,7 @@ module _ (s scratch order : List ℕ) (x : Execution) (hb : ℕ → ℕ → Bool
       let k : Breaks x hb (faulty n names) = moved e (j .hb) hb (j .tests) tests (λ y f. Breaks y f (faulty n names)) (j .breaks) in
       let not : Allowed x hb → ⊥ = λ l. breaks-not x hb (faulty n names) (l .1 .0) k (l .0) (l .1 .1) in
       record {
+        not-refused = λ r. none-refused (r .0) (r .1) (r .2);
         consistent = ((λ c. other (c .0) (c .1)), λ l. absurd (not l));
         first = λ c. other (c .0) (c .1);
         broken = λ c. (faulty n names, k, refl);
@@ -76,23 +97,57 @@ module _ (s scratch order : List ℕ) (x : Execution) (hb : ℕ → ℕ → Bool
     where
       other : {A : Type 0} (t : Settled) → Broken n names ≡ Consistent t → A
       other t e = let z : _≡_ {A = ℕ} 0 1 = cc in absurd (omega arith)
+
+      none-refused : (m q : ℕ) → Broken n names ≡ Refused m q → ⊥
+      none-refused m q e = let z : _≡_ {A = ℕ} 0 1 = cc in omega arith
   meant (Consistent t) d a b j =
       let h = holds t d j in
       let l : Allowed x hb = (h .unbroken, (take (length (x .events)) order′, h .first .is)) in
       record {
+        not-refused = λ r. none-refused (r .0) (r .1) (r .2);
         consistent = ((λ c. l), λ l. (t, refl));
         first = λ c. h .first;
         broken = λ c. absurd (c (t, refl));
         orderly = (
-          λ c. let e : AllSettled ≡ t = cc in (l, none-orderly x hb (settled-orderly (unsettledPair x hb) (e ∙ h .pair))),
+          λ c. let e : AllSettled ≡ t = cc in (l, none-orderly x hb (settled-cases (unsettledPair x hb) (e ∙ h .pair))),
           λ o. ap Consistent (h .pair ∙ ap settledOf (orderly-none x hb (o .1))),
         );
       }
+    where
+      none-refused : (m q : ℕ) → Consistent t ≡ Refused m q → ⊥
+      none-refused m q e = let z : _≡_ {A = ℕ} 0 1 = cc in omega arith
 
--- ---- the claims
+-- ---- demand 1
 
-pub answered : Answered
-answered s scratch order =
+short-refuses : (s : List ℕ) (room places n p : ℕ) → Short s room places n p → Refuses s room places n p
+short-refuses s room places n p (scratch-short x d h) = short-scratch x (exactly s x .0 d) h
+short-refuses s room places n p (order-short x d h k) = short-order x (exactly s x .0 d) h k
+
+refuses : (s : List ℕ) (scratch order : List ℕ) (n p : ℕ) (scratch′ order′ : List ℕ) → Judged s scratch order (Refused n p) scratch′ order′
+    → Refuses s (length scratch) (length order) n p
+refuses s scratch order n p scratch′ order′ j =
+    ⊎-elim (λ e. by-sheet (refusal s n p e)) (short-refuses s (length scratch) (length order) n p)
+    (refused-cases s (length scratch) (length order) n p (j .says))
+
+-- where the answer is not a refusal, the sheet is well-formed
+judged-sheet : (s scratch order : List ℕ) (answer : Answer) (scratch′ order′ : List ℕ) → (IsRefused answer → ⊥) → Judged s scratch order answer scratch′ order′
+    → (x : Execution) × (parse s ≡ whole x)
+judged-sheet s scratch order (Refused n p) scratch′ order′ h j = absurd (h (n, p, refl))
+judged-sheet s scratch order (Broken n names) scratch′ order′ h j =
+    (j .execution, admitted-whole s (length scratch) (length order) (j .execution) (j .describes) .describes)
+judged-sheet s scratch order (Consistent t) scratch′ order′ h j =
+    (j .execution, admitted-whole s (length scratch) (length order) (j .execution) (j .describes) .describes)
+
+no-row-refused : (s scratch order : List ℕ) (answer : Answer) (scratch′ order′ : List ℕ) → Rowless (described s) → Judged s scratch order answer scratch′ order′
+    → IsRefused answer
+no-row-refused s scratch order (Refused n p) scratch′ order′ r j = (n, p, refl)
+no-row-refused s scratch order (Broken n names) scratch′ order′ r j =
+    absurd (rowless-refused s r (j .execution) (admitted-whole s (length scratch) (length order) (j .execution) (j .describes) .describes))
+no-row-refused s scratch order (Consistent t) scratch′ order′ r j =
+    absurd (rowless-refused s r (j .execution) (admitted-whole s (length scratch) (length order) (j .execution) (j .describes) .describes))
+
+result : (s scratch order : List ℕ) → Result s scratch order
+result s scratch order =
     let o = outcome s (length scratch) (length order) in
     record {
       answer = o .answer;
@@ -101,39 +156,65 @@ answered s scratch order =
       judged = outcome-judged sounds s scratch order;
     }
 
+-- ---- the claims
+
+pub demand1 : Demand1
+demand1 =
+    record {
+      answered = result;
+      refused = λ s scratch order n p scratch′ order′ j.
+          record { by-table = refuses s scratch order n p scratch′ order′ j; scratch-kept = j .scratch-kept; order-kept = j .order-kept };
+      no-row = no-row-refused;
+    }
+
+pub demand2 : Demand2
+demand2 s scratch order answer scratch′ order′ x hb w a b tests j = meant s scratch order x hb tests scratch′ order′ answer (whole-of s x w) a b j
+
+pub demand3 : Demand3
+demand3 s scratch order scratch′ order′ x hb w tests j o m =
+    let h = holds s scratch order x hb tests scratch′ order′ AllSettled (whole-of s x w) j in
+    explains x hb (sound x (w .well-formed)) tests (h .unbroken) (none-orderly x hb (settled-cases (unsettledPair x hb) (h .pair))) o m
+
 pub agreement : Agreement
 agreement s scratch order a b p q p′ q′ = judged-unique s scratch order a b p q p′ q′
 
-pub demand2 : Demand2
-demand2 s scratch order answer scratch′ order′ x hb d a b tests j = meant s scratch order x hb tests scratch′ order′ answer d a b j
+pub says-the-verdict : SaysTheVerdict
+says-the-verdict s scratch order answer scratch′ order′ enough fit = judged-verdict s scratch order enough fit scratch′ order′ answer
 
-pub demand3 : Demand3
-demand3 s scratch order scratch′ order′ x hb d tests j o m =
-    let h = holds s scratch order x hb tests scratch′ order′ AllSettled d j in
-    explains x hb (sounds s x d) tests (h .unbroken) (none-orderly x hb (settled-orderly (unsettledPair x hb) (h .pair))) o m
-
-pub no-row-refused : NoRowRefused
-no-row-refused s scratch order (Refused n p) scratch′ order′ r j = (n, p, refl)
-no-row-refused s scratch order (Broken n names) scratch′ order′ r j =
-    absurd (rowless-refused s r (j .execution) (admitted-whole s (length scratch) (length order) (j .execution) (j .describes) .describes))
-no-row-refused s scratch order (Consistent t) scratch′ order′ r j =
-    absurd (rowless-refused s r (j .execution) (admitted-whole s (length scratch) (length order) (j .execution) (j .describes) .describes))
-
-rowed : (s : List ℕ) (x : Execution) → parse s ≡ whole x → Rowed s
-rowed s x d = record { execution = x; describes = d; one-row = promise s x d .row-for-each }
+pub one-verdict : OneVerdict
+one-verdict = verdict-unique
 
 pub one-row-each : OneRowEach
-one-row-each s scratch order (Refused n p) scratch′ order′ h j = absurd (h (n, p, refl))
-one-row-each s scratch order (Broken n names) scratch′ order′ h j =
-    rowed s (j .execution) (admitted-whole s (length scratch) (length order) (j .execution) (j .describes) .describes)
-one-row-each s scratch order (Consistent t) scratch′ order′ h j =
-    rowed s (j .execution) (admitted-whole s (length scratch) (length order) (j .execution) (j .describes) .describes)
+one-row-each s scratch order answer scratch′ order′ h j =
+    let d = judged-sheet s scratch order answer scratch′ order′ h j in
+    let w = exactly s (d .0) .0 (d .1) in
+    record { execution = d .0; sheet = w; one-row = w .well-formed .row-for-each }
 
-pub reduction : Reduction
-reduction s x hb d = reduced x (one-access x (promise s x d)) (sounds s x d) hb
+pub fits-word : FitsWord
+fits-word = judged-fits
+
+pub one-word : SameWord
+one-word = same-word
 
 pub inits-first : InitsFirst
-inits-first s x hb d tests = begins x hb (sounds s x d) tests
+inits-first s scratch order t scratch′ order′ x w j =
+    let y = j .execution in
+    let d = admitted-whole s (length scratch) (length order) y (j .describes) .describes in
+    let e : y ≡ x = same-whole d (whole-of s x w) in
+    let f = first-inits (problem y (j .hb)) (inits (y .events)) (begins y (j .hb) (sounds s y d) (j .tests)) (take (length (y .events)) order′) (j .first) in
+    subst (λ (z : Execution). take (inits (z .events)) order′ ≡ from 0 (inits (z .events))) e
+    (sym (take-take (inits (y .events)) (length (y .events)) order′ (omega (arith, inits-others y))) ∙ f)
+
+pub first-named : FirstNamed
+first-named s scratch order n names scratch′ order′ x hb w tests j =
+    let e = same-whole (admitted-whole s (length scratch) (length order) (j .execution) (j .describes) .describes) (whole-of s x w) in
+    breaks-first x hb (w .well-formed) (sound x (w .well-formed)) tests (faulty n names)
+    (moved e (j .hb) hb (j .tests) tests (λ y f. Breaks y f (faulty n names)) (j .breaks))
 
 pub lowest-pair : LowestPair
-lowest-pair = pair-lowest
+lowest-pair s scratch order e d scratch′ order′ x hb w tests j =
+    let h = holds s scratch order x hb tests scratch′ order′ (Unsettled e d) (whole-of s x w) j in
+    pair-lowest x hb e d (unsettled-is (unsettledPair x hb) e d (h .pair))
+
+pub reduction : Reduction
+reduction s x hb w = reduced x (one-access x (w .well-formed)) (sound x (w .well-formed)) hb

@@ -16,13 +16,12 @@ use Rattle.basis.proofs.TestLaws.{and-elim, and-intro, or-cases, or-left, or-ri
 use Rattle.format.specs.declared.Row.{Row}
 use Rattle.format.specs.declared.Pair.{Pair}
 use Rattle.format.specs.Execution.{Execution, event}
-use Rattle.sheet.specs.Parse.{whole, parse}
-use Rattle.sheet.proofs.PromiseLaws.{promise}
 use Rattle.answer.specs.declared.Settled.{Settled}
 use Rattle.answer.specs.declared.Settled.the-variants.{Orderly as AllSettled}
 use Rattle.answer.specs.declared.Answer.the-variants.{Consistent}
 use Rattle.orders.specs.Order.{Meets}
 use Rattle.orders.proofs.OrderLaws.{meets-fewer}
+use Rattle.sheet.proofs.WellSheetLaws.{exactly}
 use Rattle.model.specs.Events.{numbers, atRow}
 use Rattle.model.specs.Happens.{agentOrder, rowSyncs, synchronises, initFirst, step, Happens, one, more, Tests}
 use Rattle.model.specs.Rules.{breaks21, breaks22, breaks23, breaks24, untorn, untornFrom, breaks25, fault}
@@ -30,16 +29,13 @@ use Rattle.model.specs.Bar.{barA, barB, barC, rowBars, bar}
 use Rattle.model.specs.Order.{problem}
 use Rattle.model.specs.Unsettled.{unsettled, Orderly}
 use Rattle.model.specs.Fewer.{withPairs, MorePairs}
-use Rattle.model.proofs.Sound.{Sound, sound}
+use Rattle.model.proofs.Sound.{sound}
 use Rattle.model.proofs.Outcome.{look, hbTable}
 use Rattle.model.proofs.ClosureLaws.{table-tests}
 use Rattle.model.proofs.JudgedLaws.{Admitted, admitted-whole, same-whole}
 use Rattle.model.proofs.Demands.{demand2}
 use Rattle.model.proofs.RulesLaws.{clean, fault-none, test24}
 use Rattle.model.proofs.BarLaws.{bar-elim, bar-intro}
-
-sounds : (s : List ℕ) (x : Execution) → parse s ≡ whole x → Sound x
-sounds s x d = sound x (promise s x d)
 
 settled-same : (t u : Settled) → Consistent t ≡ Consistent u → t ≡ u
 settled-same t u e = cc
@@ -125,15 +121,15 @@ module _ (x : Execution) (ps : List Pair) (fewer : (p : Pair) → List·Memᴰ p
 -- ---- of two sheets
 
 pub more-pairs : MorePairs
-more-pairs s s′ x ps d d′ fewer scratch order t u v answer u′ v′ j k =
+more-pairs s s′ x ps w w′ fewer scratch order t u v answer u′ v′ j k =
     let hb : ℕ → ℕ → Bool = look (hbTable x) in
     let hb′ : ℕ → ℕ → Bool = look (hbTable (withPairs x ps)) in
-    let tests = table-tests x (sounds s x d) in
-    let tests′ = table-tests (withPairs x ps) (sounds s′ (withPairs x ps) d′) in
-    let q = same-whole (admitted-whole s (length scratch) (length order) (j .execution) (j .describes) .describes) d in
+    let tests = table-tests x (sound x (w .well-formed)) in
+    let tests′ = table-tests (withPairs x ps) (sound (withPairs x ps) (w′ .well-formed)) in
+    let q = same-whole (admitted-whole s (length scratch) (length order) (j .execution) (j .describes) .describes) (exactly s x .1 w) in
     let a = subst (λ (y : Execution). Admitted s (length scratch) (length order) y) q (admitted-whole s (length scratch) (length order) (j .execution) (j .describes)) in
-    let m = demand2 s scratch order (Consistent t) u v x hb d (a .scratch) (a .order) tests j in
-    let n = demand2 s′ scratch order answer u′ v′ (withPairs x ps) hb′ d′ (a .scratch) (a .order) tests′ k in
+    let m = demand2 s scratch order (Consistent t) u v x hb w (a .scratch) (a .order) tests j in
+    let n = demand2 s′ scratch order answer u′ v′ (withPairs x ps) hb′ w′ (a .scratch) (a .order) tests′ k in
     let l = m .consistent .0 (t, refl) in
     let o = m .first (t, refl) .is in
     record {

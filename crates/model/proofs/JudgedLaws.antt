@@ -1,17 +1,19 @@
 -- The laws of specs/Judged.antt. Assumes nothing.
 --     admitted-whole, whole-admitted     what is judged: the sheet describes it and both buffers are long enough, and back
+--     Short, refused-cases               what is refused: by the sheet itself, or for a short buffer
 --     moved                              a fact about an execution and a test of its happens-before, with another test
 --     breaks-unique, judged-unique       two results that are Judged for the same inputs are equal
 use mathlib.Core.Path.{_≡_, refl, sym, _∙_, ap, subst}
-use mathlib.Core.Logic.{inl, inr}
+use mathlib.Core.Logic.{_⊎_, inl, inr}
 use mathlib.Core.Bool.{Bool, true, false, cond}
 use mathlib.Core.List.{List, _++_}
 use mathlib.Core.Option.{none}
 use Prim.Native.Nat.{ℕ, _≤_, _<_}
 use native.Mathlib.Omega.{arith}
-use lib.Dec.{ltb, ltb→lt, lt→ltb}
+use borrow.Author.Tests.{ltb-true, ltb-false}
+use lib.Dec.{ltb, ltb→lt}
 use lib.ListN.{length, take, drop, take-append-drop}
-use Rattle.basis.proofs.LoopLaws.{T-false, false-T}
+use Rattle.basis.proofs.LoopLaws.{T-false}
 use Rattle.format.specs.Execution.{Execution}
 use Rattle.sheet.specs.Parse.{Parsed, refused, whole, parse}
 use Rattle.sets.specs.Table.{cleared}
@@ -46,16 +48,36 @@ lent-whole room places (whole y) x h = go (ltb room (needed y)) (ltb places (len
     go false true p q k = let z : _≡_ {A = ℕ} 0 1 = cc in absurd (omega arith)
     go false false p q k =
         let e : y ≡ x = cc in
-        let u : needed y ≤ room = low room (needed y) p in
-        let v : length (y .events) ≤ places = low places (length (y .events)) q in
+        let u : needed y ≤ room = ltb-false room (needed y) p in
+        let v : length (y .events) ≤ places = ltb-false places (length (y .events)) q in
         (k, subst (λ (z : Execution). needed z ≤ room) e u, subst (λ (z : Execution). length (z .events) ≤ places) e v)
-      where
-        low : (a b : ℕ) → ltb a b ≡ false → b ≤ a
-        low a b t = elim (native.Mathlib.Decide.decLt a b) [ yes l ↦ absurd (false-T _ t (lt→ltb a b l)) | no l ↦ omega arith ]
 
 pub admitted-whole : (s : List ℕ) (room places : ℕ) (x : Execution) → admitted s room places ≡ whole x → Admitted s room places x
 unfolding admitted
 admitted-whole s room places x h = let w = lent-whole room places (parse s) x h in record { describes = w .0; scratch = w .1; order = w .2 }
+
+-- a buffer is too short for what the sheet describes
+pub data Short (s : List ℕ) (room places : ℕ) : ℕ → ℕ → Type 0 where
+  scratch-short : (x : Execution) → parse s ≡ whole x → room < needed x → Short s room places 12 0
+  order-short : (x : Execution) → parse s ≡ whole x → needed x ≤ room → places < length (x .events) → Short s room places 13 0
+
+-- refused by the sheet itself, or for a short buffer
+pub refused-cases : (s : List ℕ) (room places n p : ℕ) → admitted s room places ≡ refused n p → (parse s ≡ refused n p) ⊎ Short s room places n p
+unfolding admitted lent
+refused-cases s room places n p e = go (parse s) refl e
+  where
+    said : (m : ℕ) → refused m 0 ≡ refused n p → Short s room places m 0 → Short s room places n p
+    said m q h = let a : m ≡ n = cc in let b : 0 ≡ p = cc in subst (λ (k : ℕ). Short s room places n k) b (subst (λ (k : ℕ). Short s room places k 0) a h)
+
+    go : (q : Parsed) → parse s ≡ q → lent room places q ≡ refused n p → (parse s ≡ refused n p) ⊎ Short s room places n p
+    go (refused m o) h k = inl (h ∙ k)
+    go (whole x) h k = at (ltb room (needed x)) refl (ltb places (length (x .events))) refl k
+      where
+        at : (a : Bool) → ltb room (needed x) ≡ a → (b : Bool) → ltb places (length (x .events)) ≡ b
+            → cond a (refused 12 0) (cond b (refused 13 0) (whole x)) ≡ refused n p → (parse s ≡ refused n p) ⊎ Short s room places n p
+        at true a b c d = inr (said 12 d (scratch-short x h (ltb-true _ _ a)))
+        at false a true c d = inr (said 13 d (order-short x h (ltb-false _ _ a) (ltb-true _ _ c)))
+        at false a false c d = absurd (let z : _≡_ {A = ℕ} 0 1 = cc in omega arith)
 
 pub whole-admitted : (s : List ℕ) (room places : ℕ) (x : Execution) → parse s ≡ whole x → needed x ≤ room → length (x .events) ≤ places
     → admitted s room places ≡ whole x

@@ -15,9 +15,12 @@ pub mod Warshall
 pub mod ClosureLaws
 pub mod SearchLaws
 pub mod OutcomeLaws
+pub mod FirstLaws
+pub mod LowestLaws
+pub mod VerdictLaws
+pub mod FitLaws
 pub mod Demands
 pub mod Single
 pub mod Litmus
-pub mod FirstLaws
 pub mod Fewer
 pub mod AcrossLaws

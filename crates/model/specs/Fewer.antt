@@ -8,7 +8,7 @@ use Prim.Native.Nat.{ℕ}
 use lib.ListN.{length, take}
 use Rattle.format.specs.declared.Pair.{Pair}
 use Rattle.format.specs.Execution.{Execution}
-use Rattle.sheet.specs.Parse.{whole, parse}
+use Rattle.sheet.specs.WellSheet.{WellSheet}
 use Rattle.orders.specs.Order.{Meets}
 use Rattle.answer.specs.declared.Settled.{Settled}
 use Rattle.answer.specs.declared.Settled.the-variants.{Orderly as AllSettled}
@@ -30,6 +30,6 @@ pub record Unexcused (smaller : Execution) (t : Settled) (order′ : List ℕ) (
   pub orderly : answer ≡ Consistent AllSettled → t ≡ AllSettled
 
 abbrev pub MorePairs : Type 0
-MorePairs = (s s′ : List ℕ) (x : Execution) (ps : List Pair) → parse s ≡ whole x → parse s′ ≡ whole (withPairs x ps)
+MorePairs = (s s′ : List ℕ) (x : Execution) (ps : List Pair) → WellSheet s x → WellSheet s′ (withPairs x ps)
     → ((p : Pair) → List·Memᴰ p ps → List·Memᴰ p (x .pairs)) → (scratch order : List ℕ) (t : Settled) (u v : List ℕ) (answer : Answer) (u′ v′ : List ℕ)
     → Judged s scratch order (Consistent t) u v → Judged s′ scratch order answer u′ v′ → Unexcused (withPairs x ps) t v answer

@@ -7,6 +7,7 @@ pub mod Unsettled
 pub mod Memory
 pub mod Judged
 pub mod Verdict
+pub mod Lowest
 pub mod Sentences
 pub mod Litmus
 pub mod Further

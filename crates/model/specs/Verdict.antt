@@ -2,18 +2,20 @@
 -- "What comes back"). Laws: proofs/VerdictLaws.antt.
 --     maxScratch               bytes of scratch that are enough for every sheet
 --     Verdict s answer o       what is said of the sheet s; o is the order, [] where none is reported
+--     Reported s order answer order′     the verdict of s, with its order in front of the order buffer's rest
 -- Assumes nothing.
 use mathlib.Core.Path.{_≡_}
 use mathlib.Core.Bool.{Bool}
-use mathlib.Core.List.{List, []}
+use mathlib.Core.List.{List, [], _++_}
 use mathlib.Core.Option.{none}
-use Prim.Native.Nat.{ℕ}
-use Rattle.format.specs.Limits.{maxOthers}
+use Prim.Native.Nat.{ℕ, _<_}
+use lib.ListN.{length, drop}
+use Rattle.format.specs.Limits.{maxOthers, maxEvents}
 use Rattle.format.specs.Execution.{Execution}
 use Rattle.sheet.specs.Parse.{refused, parse}
 use Rattle.sheet.specs.WellSheet.{WellSheet}
 use Rattle.sets.specs.Table.{bytesFor}
-use Rattle.orders.specs.Order.{Meets}
+use Rattle.orders.specs.Order.{In, Meets}
 use Rattle.orders.specs.First.{FirstOf}
 use Rattle.answer.specs.declared.Settled.{Settled}
 use Rattle.answer.specs.declared.Answer.{Answer}
@@ -56,3 +58,10 @@ abbrev pub Verdict : List ℕ → Answer → List ℕ → Type 0
 Verdict s (Refused n p) o = SaidRefused s n p o
 Verdict s (Broken n names) o = SaidBroken s (faulty n names) o
 Verdict s (Consistent settled) o = SaidConsistent s settled o
+
+-- 01: "the order buffer's first bytes, one for each event, hold the order; its rest is unchanged"; else the order buffer is unchanged
+pub record Reported (s order : List ℕ) (answer : Answer) (order′ : List ℕ) : Type 0 where
+  pub told : List ℕ
+  pub verdict : Verdict s answer told
+  pub front : order′ ≡ told ++ drop (length told) order
+  pub events : (e : ℕ) → In e told → e < maxEvents

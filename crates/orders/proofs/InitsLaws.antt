@@ -3,6 +3,7 @@
 --     whole-first    the first way on from the inits, with the inits in front, is the first of all orders that meet the problem
 --     runs-whole     each way on from the inits, with the inits in front, is an order that meets the problem
 --     whole-none     where the inits leave no way on, no order meets the problem
+--     first-inits    the first order that meets the problem begins with the inits
 --     from-..        lists that begin with the inits
 use Prim.Native.Nat.{ℕ, zero, suc, _+_, _<_, _≤_}
 use mathlib.Core.Path.{_≡_, refl, sym, ap, subst, _∙_}
@@ -14,13 +15,13 @@ use native.Mathlib.Decide.{ℕ-discrete}
 use lib.ListN.{length, getD, take}
 use Rattle.basis.specs.Test.{from}
 use Rattle.orders.specs.Problem.{Problem}
-use Rattle.orders.specs.Order.{Meets}
-use Rattle.orders.specs.First.{FirstOf}
+use Rattle.orders.specs.Order.{In, Distinct, Meets}
+use Rattle.orders.specs.First.{Lex, FirstOf}
 use Rattle.orders.specs.Step.{With, Below, Ready, Runs, Dead}
 use Rattle.orders.specs.Inits.{Begins}
 use Rattle.orders.proofs.FirstLaws.{Tri, below, same, above, tri}
 use Rattle.orders.proofs.StepLaws.{Same, same-sym, same-runs, same-dead, same-first, Best, first-step}
-use Rattle.orders.proofs.OrderLaws.{None, runs-meets, first-meets, none-meets}
+use Rattle.orders.proofs.OrderLaws.{None, runs-meets, meets-runs, first-meets, none-meets}
 
 with-swap : (S : ℕ → Type 0) (a b : ℕ) → Same (With (With S a) b) (With (With S b) a)
 with-swap S a b d = (swap a b, swap b a)
@@ -37,6 +38,28 @@ below-suc j d = (⊎-elim (λ p. omega (arith, p)) (λ g. omega (arith, g)), λ 
     up g (below q) = inr q
     up g (same q) = inl q
     up g (above q) = absurd (omega (arith, g, q))
+
+-- numbers from j on, each once, that come no later than a list which counts from j: they count from j too
+lead : (c j : ℕ) (l t : List ℕ) → Lex l (from j c ++ t) → Distinct l → ((e : ℕ) → In e l → j ≤ e) → ((e : ℕ) → j ≤ e → e < j + c → In e l) → take c l ≡ from j c
+unfolding from
+lead zero j l t h d low all = refl
+lead (suc c) j [] t h d low all = absurd (all j (omega arith) (omega arith))
+lead (suc c) j (x ∷ l) t (inl h) d low all = absurd (let b = low x (inl refl) in omega arith)
+lead (suc c) j (x ∷ l) t (inr h) d low all =
+    let q : x ≡ j = h .0 in
+    let r = lead c (suc j) l t (h .1) (d .1) (λ e i. above-first e i (low e (inr i))) (λ e a b. rest e (omega arith) (all e (omega arith) (omega arith))) in
+    ap (λ (y : ℕ). y ∷ take c l) q ∙ ap (λ (m : List ℕ). j ∷ m) r
+  where
+    above-first : (e : ℕ) → In e l → j ≤ e → suc j ≤ e
+    above-first e i b = go (ℕ-discrete e j)
+      where
+        go : Dec (e ≡ j) → suc j ≤ e
+        go (yes p) = absurd (d .0 (subst (λ (y : ℕ). In y l) (p ∙ sym (h .0)) i))
+        go (no p) = omega arith
+
+    rest : (e : ℕ) → suc j ≤ e → In e (x ∷ l) → In e l
+    rest e b (inl p) = absurd (let q : x ≡ j = h .0 in omega arith)
+    rest e b (inr p) = p
 
 none-below : Same (Below 0) None
 none-below d = ((λ h. omega (arith, h)), (λ z. absurd z))
@@ -112,6 +135,22 @@ module _ (P : Problem) (k : ℕ) (begins : Begins P k) where
   -- where the inits leave no order, none meets the rules
   pub whole-none : Dead P (Below k) → (l : List ℕ) → Meets P l → ⊥
   whole-none d = none-meets P begins (same-dead P (Below 0) None none-below (early-dead k 0 (omega arith) (rw zero-add d)))
+
+  -- and the other way: from an order, a way on from the inits
+  early-on : (c j : ℕ) → j + c ≤ k → (l : List ℕ) → Runs P (Below j) l → (t : List ℕ) × Runs P (Below (j + c)) t
+  early-on zero j h l r = (l, rw add-zero r)
+  early-on (suc c) j h l r =
+      let w = with-runs l (Below j) j (omega arith) r in
+      let v = early-on c (suc j) (omega arith) (w .0) (same-runs P (w .0) (With (Below j) j) (Below (suc j)) (below-suc j) (w .1)) in
+      (v .0, rw (add-suc, ← suc-add) (v .1))
+
+  -- the first order that meets the problem begins with the inits, in the order of their numbers
+  pub first-inits : (o : List ℕ) → FirstOf (Meets P) o → take k o ≡ from 0 k
+  first-inits o f =
+      let r = same-runs P o None (Below 0) (same-sym (Below 0) None none-below) (meets-runs P begins o (f .is)) in
+      let t = early-on k 0 (omega arith) o r in
+      lead k 0 o (t .0) (f .least (from 0 k ++ t .0) (runs-whole (t .0) (rw zero-add at (t .1)))) (f .is .once) (λ e h. omega arith)
+      (λ e a b. f .is .all e (let i = begins .inits in omega arith))
 
 -- ---- lists that begin with the inits
 

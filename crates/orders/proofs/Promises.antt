@@ -1,12 +1,16 @@
 -- The promises of specs/Promises.antt hold. Assumes nothing.
-use Rattle.orders.specs.Promises.{FirstIsFirst, PossibleIsMeets, FirstAgrees, PossibleAgrees, CountAgrees, StepsAreOrders, DeadEnds, FewerKeep, CountAtMost}
+use Rattle.orders.specs.Promises.{FirstIsFirst, FirstBegins, PossibleIsMeets, FirstAgrees, PossibleAgrees, CountAgrees, StepsAreOrders, DeadEnds, FewerKeep, CountAtMost}
 use Rattle.orders.proofs.StepLaws.{dead-here}
 use Rattle.orders.proofs.OrderLaws.{meets-runs, runs-meets, meets-fewer}
+use Rattle.orders.proofs.InitsLaws.{first-inits}
 use Rattle.orders.proofs.ReachableLaws.{counted-most}
 use Rattle.orders.proofs.AnswerLaws.{ordered-first, ordered-none, possible-meets, possible-none, answered-unique, told-unique, tallied-unique}
 
 pub first-is-first : FirstIsFirst
 first-is-first k m before bars scratch order s o r b f l a = let x = a .fit f l in (ordered-first b x, ordered-none b x)
+
+pub first-begins : FirstBegins
+first-begins = first-inits
 
 pub possible-is-meets : PossibleIsMeets
 possible-is-meets k m before bars scratch s r b f a = let x = a .fit f in (possible-meets b x, possible-none b x)

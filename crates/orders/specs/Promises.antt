@@ -1,5 +1,6 @@
 -- What the crate promises beyond its functions' contracts. proofs/Promises.antt proves each in a line. Assumes nothing.
 --     FirstIsFirst     what `first` finds is the first of all total orders that meet the problem; where it finds none, none does
+--     FirstBegins      the first order begins with the inits, in the order of their numbers
 --     PossibleIsMeets  what `possible` says is whether some total order meets the problem
 --     FirstAgrees PossibleAgrees CountAgrees    two conforming answers are equal, buffers too
 --     StepsAreOrders   one event at a time and whole orders say the same
@@ -12,6 +13,7 @@ use mathlib.Core.Bool.{Bool, true, false}
 use mathlib.Core.Logic.{_↔_}
 use mathlib.Core.List.{List}
 use lib.ListN.{length, take, drop}
+use Rattle.basis.specs.Test.{from}
 use Rattle.sets.specs.Mask.{full}
 use Rattle.orders.specs.declared.Count.{Count}
 use Rattle.orders.specs.Problem.{Problem}
@@ -30,6 +32,10 @@ FirstIsFirst =
     → Answered k m before bars scratch order r s o
     → (r ≡ true → FirstOf (Meets (tabled m before bars)) (take m o) × (drop m o ≡ drop m order))
     × (r ≡ false → (l : List ℕ) → Meets (tabled m before bars) l → ⊥)
+
+-- READINGS: "The first one always begins with all inits in number order"
+abbrev pub FirstBegins : Type 1
+FirstBegins = (P : Problem) (k : ℕ) → Begins P k → (o : List ℕ) → FirstOf (Meets P) o → take k o ≡ from 0 k
 
 abbrev pub PossibleIsMeets : Type 0
 PossibleIsMeets =

@@ -2,7 +2,7 @@
 --     marked-marking marked-cleared            what is marked after a mark, and in a cleared table
 --     marking-new marking-old marking-cases    the first as facts
 --     length-marking drop-marking              a mark changes nothing else
---     bytes-few bytes-many place-within        how many bytes the sets of n events take
+--     bytes-few bytes-many bytes-mono place-within     how many bytes the sets of n events take
 --     cleared-within cleared-rest cleared-again length-cleared    a cleared table
 --     marks-marking marks-cleared              the number of marks
 use mathlib.Core.Path.{_≡_, refl, sym, ap, ap₂, _∙_, subst}
@@ -117,6 +117,9 @@ bytes-few n h = omega (arith, few n h)
 
 pub bytes-many : (n : ℕ) → 3 ≤ n → bytesFor n ≡ 2 ^ (n - 3)
 bytes-many n h = omega (arith, eights n h, pow-pos (n - 3))
+
+pub bytes-mono : (m n : ℕ) → m ≤ n → bytesFor m ≤ bytesFor n
+bytes-mono m n h = let p : 2 ^ m ≤ 2 ^ n = pow-mono h in omega arith
 
 -- the byte of a set of n events is within the bytes for n events
 pub place-within : (n x : ℕ) → x < 2 ^ n → x / 8 < bytesFor n

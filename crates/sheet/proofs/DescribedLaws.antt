@@ -1,12 +1,15 @@
 -- The laws of specs/Described.antt. Assumes nothing.
+--     taken-end, taken-more, taken-next     the fields taken, field by field
 --     parse-described     where a sheet is not refused, it describes what its fields describe
 --     rowless-refused     a sheet with a read byte without a row describes no execution
-use mathlib.Core.Path.{_≡_, sym, subst}
+--     not-whole           a refusal is no execution
+use mathlib.Core.Path.{_≡_, sym, ap, _∙_, subst}
 use mathlib.Core.Bool.{Bool, true, false, cond}
 use mathlib.Core.List.{List}
 use mathlib.Core.Option.{Option, none, some}
-use Prim.Native.Nat.{ℕ, zero, suc}
+use Prim.Native.Nat.{ℕ, zero, suc, _+_, _-_, _<_, _≤_}
 use native.Mathlib.Omega.{arith}
+use borrow.Author.Tests.{le-ltb, lt-ltb}
 use lib.Dec.{ltb, eqb}
 use lib.ListN.{length}
 use Rattle.basis.specs.Test.{non, any}
@@ -20,7 +23,20 @@ use Rattle.sheet.specs.Promise.{row}
 use Rattle.sheet.proofs.PromiseLaws.{promise}
 use Rattle.sheet.specs.Described.{fieldsTaken, described, Rowless}
 
-not-whole : {A : Type 0} {n p : ℕ} {x : Execution} → refused n p ≡ whole x → A
+module _ (s : List ℕ) (k p : ℕ) (st : State) where
+  pub taken-end : length s ≤ p → fieldsTaken s (suc k) p st ≡ st
+  unfolding fieldsTaken
+  taken-end h = rw (le-ltb p (length s) h, fieldsTaken)
+
+  pub taken-more : p < length s → fieldsTaken s (suc k) p st ≡ fieldsTaken s k (nextAt s p) (after s p st)
+  unfolding fieldsTaken
+  taken-more h = rw (lt-ltb p (length s) h, fieldsTaken)
+
+  -- with the fuel that is left
+  pub taken-next : p < length s → length s ≤ k + p → fieldsTaken s (suc (k - 1)) (nextAt s p) (after s p st) ≡ fieldsTaken s (suc k) p st
+  taken-next h b = let n : suc (k - 1) ≡ k = omega arith in ap (λ (j : ℕ). fieldsTaken s j (nextAt s p) (after s p st)) n ∙ sym (taken-more h)
+
+pub not-whole : {A : Type 0} {n p : ℕ} {x : Execution} → refused n p ≡ whole x → A
 not-whole e = let z : _≡_ {A = ℕ} 0 1 = cc in absurd (omega arith)
 
 completed-whole : (st : State) (o : Option ℕ) (x : Execution) → completed st o ≡ whole x → x ≡ st .got

@@ -2,7 +2,7 @@
 --     promise : parse s ≡ whole x → WellFormed x
 use mathlib.Core.Path.{_≡_, refl, sym, ap, _∙_, subst}
 use mathlib.Core.Logic.{_⊎_, inl, inr, ⊎-elim}
-use mathlib.Core.Bool.{Bool, true, false, cond, false≢true}
+use mathlib.Core.Bool.{Bool, true, false, false≢true}
 use mathlib.Core.List.{List, [], _∷_, _++_, List·Memᴰ, List·Memᴰ·head, List·Memᴰ·tail, List·Memᴰ·eq-of-singleton}
 use mathlib.Core.Option.{Option, none, some}
 use Prim.Native.Nat.{ℕ, zero, suc, _+_, _-_, _<_, _≤_}
@@ -10,27 +10,25 @@ use native.Mathlib.Omega.{arith}
 use native.Mathlib.Nat.{eq-or-lt-of-le}
 use borrow.Author.Tests.{ltb-true, ltb-false, eqb-true, eqb-false, eq-eqb, le-ltb, lt-ltb}
 use lib.Dec.{T, eqb, ltb, leb}
-use lib.ListN.{length, getD, length-append, List·getD-eq-default}
-use Rattle.basis.specs.Test.{_and_, _or_, non, any, all, number, find, from}
-use Rattle.basis.proofs.TestLaws.{and-intro, non-intro, or-left, or-right, or-cases, and-elim, any-elim, any-intro, find-none, from-mem}
+use lib.ListN.{length, getD, length-append}
+use Rattle.basis.specs.Test.{_and_, _or_, non, any, all, number}
+use Rattle.basis.proofs.TestLaws.{and-intro, or-left, or-right, or-cases, and-elim, any-elim, any-intro}
 use Rattle.basis.proofs.LoopLaws.{true-T, T-true, false-T, T-false, and-both, or-either, non-true, non-false, number-snoc, number-le, all-number}
 use Rattle.basis.proofs.ListLaws.{each-snoc, two-snoc}
 use Rattle.format.specs.declared.Head.{Head}
 use Rattle.format.specs.declared.Row.{Row}
 use Rattle.format.specs.declared.Pair.{Pair}
 use Rattle.format.specs.Limits.{maxBytes, maxAgents, maxMemory, maxInits, maxOthers, maxPairs}
-use Rattle.format.specs.Event.{Access, Event, nobody, lookup, accessAt, shapeAt, isInit, meets, readsAt, writesAt, readsSome}
+use Rattle.format.specs.Event.{Access, Event, nobody, isInit, meets, readsAt, writesAt, readsSome}
 use Rattle.format.specs.Execution.{Execution, eventNo, event, inits, others, rowBelow, pairBelow, noHead, noRow, noPair}
 use Rattle.format.specs.Field.{tagAt, nextAt, valueAt}
 use Rattle.format.specs.Layout.{headBytes, pairBytes, rowBytes, headOf, agentOf, shapeOf, accessOf, eventOf, rowOf, pairOf}
-use Rattle.format.proofs.EventLaws.{covers-nothing, readsAt-nobody}
-use Rattle.format.proofs.LayoutLaws.{covered}
-use Rattle.format.specs.Shape.{reads, covers}
 use Rattle.sheet.specs.Content.{within, headFits, roomFor, joins, rowRises, rowFits, parts, pairRises, pairFits}
-use Rattle.sheet.specs.Parse.{Parsed, refused, whole, State, placeOf, blank, headFault, eventFault, rowFault, pairFault, faultAt, taken, after, isRow, lacks, lowestLacking, completed, finish, fieldsFrom, parse}
+use Rattle.sheet.specs.Parse.{Parsed, refused, whole, State, placeOf, blank, headFault, eventFault, rowFault, pairFault, faultAt, taken, after, isRow, lowestLacking, completed, finish, fieldsFrom, parse}
 use Rattle.sheet.specs.Promise.{WellEvent, row, pair, OneRow, WellFormed}
 use Rattle.sheet.proofs.ParseLaws.{no-fault, no-fault-non, within-elim, was-none, was-2, was-3, was-4, known, head-clean, event-clean, row-clean, pair-clean, at-end, at-fault, at-field}
 use Rattle.sheet.proofs.BetweenLaws.{event-room, room-init, room-other}
+use Rattle.sheet.proofs.LackLaws.{has-row}
 use Rattle.sheet.proofs.ContentLaws.{well-event, stands-first, JoinedFacts, joined, PartedFacts, parted}
 
 -- ---- what holds of an execution as far as it has been read
@@ -353,53 +351,11 @@ not-below q r d e t =
     (λ x. let w = and-both (eqb (q .reader) (r .reader)) (ltb (q .address) (r .address)) x in let y = ltb-true (q .address) (r .address) (w .1) in omega arith)
     (or-either (ltb (q .reader) (r .reader)) _ (T-true _ t))
 
--- an access that reads byte n is one of the event's, and covers the byte
-module _ (n : ℕ) where
-  looked : (l : List Access) → T (covers (lookup l n .shape) n) → List·Memᴰ (lookup l n) l
-  unfolding lookup
-  looked [] t = absurd (false-T _ (covers-nothing n) t)
-  looked (a ∷ l) t = go (covers (a .shape) n) refl (looked l)
-    where
-      go : (b : Bool) → covers (a .shape) n ≡ b → (T (covers (lookup l n .shape) n) → List·Memᴰ (lookup l n) l) → List·Memᴰ (cond (covers (a .shape) n) a (lookup l n)) (a ∷ l)
-      go true p ih = subst (λ (b : Bool). List·Memᴰ (cond b a (lookup l n)) (a ∷ l)) (sym p) (List·Memᴰ·head refl)
-      go false p ih =
-          subst (λ (b : Bool). List·Memᴰ (cond b a (lookup l n)) (a ∷ l)) (sym p)
-          (List·Memᴰ·tail (ih (subst (λ (b : Bool). T (covers (cond b a (lookup l n) .shape) n)) p t)))
-
-module _ (x : Execution) (none-lacks : lowestLacking x ≡ none) where
-  -- each byte that an event reads has a row
-  has-row : (e n : ℕ) → e < length (x .events) → T (readsAt (event x e) n) → any (isRow e n) (x .rows) ≡ true
-  unfolding lowestLacking event readsAt shapeAt accessAt lacks
-  has-row e n b t =
-      let w = and-elim (covers (lookup (event x e .accesses) n .shape) n) (reads (lookup (event x e .accesses) n .shape)) t in
-      let c = covered (lookup (event x e .accesses) n .shape) n (T-true _ (w .0)) in
-      let a = lookup (event x e .accesses) n in
-      go (any (isRow e n) (x .rows)) refl
-      (λ r. find-none (λ (i : ℕ). lacks (x .rows) i (eventNo (x .events) i)) (from 0 (length (x .events))) none-lacks e (from-mem (length (x .events)) 0 e (omega arith) (omega arith))
-      (any-intro
-      (λ (d : Access). reads (d .shape) and any (λ (m : ℕ). non (any (isRow e m) (x .rows))) (from (d .shape .start) (d .shape .width)))
-      (event x e .accesses) a (looked n (event x e .accesses) (w .0))
-      (and-intro (reads (a .shape)) _ (w .1)
-      (any-intro (λ (m : ℕ). non (any (isRow e m) (x .rows))) (from (a .shape .start) (a .shape .width)) n (from-mem (a .shape .width) (a .shape .start) n (c .0) (c .1)) (non-intro _ (false-T _ r))))))
-    where
-      go : (b : Bool) → any (isRow e n) (x .rows) ≡ b → (any (isRow e n) (x .rows) ≡ false → ⊥) → any (isRow e n) (x .rows) ≡ true
-      go true r h = r
-      go false r h = absurd (h r)
-
--- who reads is an event
-is-event : (x : Execution) (e n : ℕ) → T (readsAt (event x e) n) → e < length (x .events)
-unfolding event eventNo
-is-event x e n t = go (ltb e (length (x .events))) refl
-  where
-    go : (b : Bool) → ltb e (length (x .events)) ≡ b → e < length (x .events)
-    go true p = ltb-true _ _ p
-    go false p = absurd (false-T _ (readsAt-nobody n) (subst (λ (d : Event). T (readsAt d n)) (List·getD-eq-default (x .events) nobody (ltb-false _ _ p)) t))
-
 one-row : (x : Execution) → lowestLacking x ≡ none → ((i j : ℕ) → i < j → j < length (x .rows) → T (rowBelow (row x i) (row x j)))
     → (e n : ℕ) → T (readsAt (event x e) n) → OneRow x e n
 unfolding isRow
 one-row x l rise e n t =
-    let w = some-at noRow (isRow e n) (x .rows) (has-row x l e n (is-event x e n t) t) in
+    let w = some-at noRow (isRow e n) (x .rows) (has-row x l e n t) in
     let k = and-elim (eqb (row x (w .0) .reader) e) (eqb (row x (w .0) .address) n) (w .2) in
     let r : row x (w .0) .reader ≡ e = eqb-true _ _ (T-true _ (k .0)) in
     let a : row x (w .0) .address ≡ n = eqb-true _ _ (T-true _ (k .1)) in

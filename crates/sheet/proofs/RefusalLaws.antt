@@ -1,156 +1,276 @@
--- Where a refusal of `parse` lies: its number is one of 1 to 11, its place no further than the sheet's end. So the fuel never runs out.
+-- Every refusal of `parse` is by a row of 01's table: specs/Refusal.antt. Kept field by field, then the tests after all fields. So the fuel never runs out.
+--     refusal : Tabled
+--     refusal-number : parse s ≡ refused n p → (1 ≤ n) × (n ≤ 11)
+--     refusal-place : parse s ≡ refused n p → p ≤ length s
 -- Assumes nothing.
---     refusal-number, refusal-place : parse s ≡ refused n p → ..
 use mathlib.Core.Path.{_≡_, refl, sym, ap, _∙_, subst}
-use mathlib.Core.Bool.{Bool, true, false, cond}
+use mathlib.Core.Logic.{⊎-elim}
+use mathlib.Core.Bool.{Bool, true, false}
 use mathlib.Core.List.{List, [], _∷_, _++_}
 use mathlib.Core.Option.{Option, none, some}
-use mathlib.Core.Logic.{_⊎_, inl, inr, ⊎-elim}
 use Prim.Native.Nat.{ℕ, zero, suc, _+_, _-_, _<_, _≤_}
 use native.Mathlib.Omega.{arith}
-use borrow.Author.Tests.{ltb-true, ltb-false}
-use lib.Dec.{eqb, ltb}
-use lib.ListN.{length, getD, List·getD-eq-default, List·getD-append}
-use lib.Seq.{getD-append-seam}
+use borrow.Author.Tests.{ltb-true, ltb-false, eqb-true, eqb-false, ne-eqb}
+use lib.Dec.{T, eqb, ltb}
+use lib.ListN.{length, getD, length-append, List·getD-eq-default, List·getD-append}
 use Rattle.basis.specs.Test.{non, any}
-use Rattle.basis.proofs.ListLaws.{snoc-split, last-at}
-use Rattle.format.specs.Limits.{maxBytes, maxPairs}
-use Rattle.format.specs.Layout.{headBytes, eventBytes, rowBytes, pairBytes, headOf, agentOf, shapeOf, rowOf, pairOf}
-use Rattle.sheet.specs.Content.{headFits, eventFits, dataBytes, roomFor, rowFits, pairFits}
-use Rattle.format.specs.Event.{readsSome}
-use Rattle.format.specs.Execution.{Execution}
-use Rattle.format.specs.Field.{fieldBytes, tagAt, nextAt, valueAt}
-use Rattle.sheet.specs.Parse.{Parsed, refused, whole, placeOf, State, blank, allowed, headFault, eventFault, rowFault, pairFault, valueFault, faultAt, taken, after, lowestLacking, completed, finish, fieldsFrom, parse}
-use Rattle.sheet.proofs.ParseLaws.{inside, at-end, at-fault, at-field}
+use Rattle.basis.proofs.TestLaws.{any-intro}
+use Rattle.basis.proofs.LoopLaws.{false-T, non-true}
+use Rattle.basis.proofs.ListLaws.{snoc-split, last-at, each-snoc, getD-mem}
+use Rattle.format.specs.Limits.{maxBytes}
+use Rattle.format.specs.Layout.{accessOf, eventOf}
+use Rattle.format.specs.Event.{Event, nobody, readsSome}
+use Rattle.format.specs.Execution.{Execution, event, eventNo}
+use Rattle.format.specs.Field.{tagAt, valueAt, fieldPlace}
+use Rattle.sheet.specs.Parse.{refused, whole, placeOf, State, blank, faultAt, taken, after, lowestLacking, completed, finish, fieldsFrom, parse}
+use Rattle.sheet.specs.Described.{fieldsTaken, described, RowlessAt}
+use Rattle.sheet.specs.Refusal.{tagNo, Blames, Refusal, Tabled}
+use Rattle.sheet.proofs.ParseLaws.{inside, was-none, was-2, known, at-end, at-fault, at-field}
+use Rattle.sheet.proofs.DescribedLaws.{taken-end, taken-more}
+use Rattle.sheet.proofs.LackLaws.{is-event, OneAccess, lowest-rowless}
+use Rattle.sheet.proofs.LadderLaws.{lastTag, rung, blamed}
 
-cond-le : (b : Bool) (k m n : ℕ) → m ≤ k → n ≤ k → cond b m n ≤ k
-cond-le true k m n h j = h
-cond-le false k m n h j = j
+-- ---- what is known before field number k
 
--- ladders of tests, as the fields have them
-ladder2 : (a b : Bool) (n k : ℕ) → n ≤ 9 → k ≤ 9 → cond a n (cond b k 0) ≤ 9
-ladder2 true b n k h j = h
-ladder2 false true n k h j = j
-ladder2 false false n k h j = omega arith
+-- of the last tag, the places of the events' tags, and the events
+record Behind (s : List ℕ) (k tag : ℕ) (places : List ℕ) (events : List Event) : Type 0 where
+  last : tag ≡ lastTag s k
+  some-last : 1 ≤ k → 1 ≤ lastTag s k
+  -- the head is field 0, event e field 1 + e
+  count : tag ≤ 2 → k - 1 ≡ length places
+  same : length places ≡ length events
+  event-place : (e : ℕ) → e < length places → getD places e 0 ≡ fieldPlace s (suc e)
+  event-tag : (e : ℕ) → e < length places → tagNo s (suc e) ≡ 2
+  one : (e : ℕ) → e < length events → OneAccess (getD events e nobody)
 
-head-most : (v : List ℕ) → headFault v ≤ 9
-unfolding headFault
-head-most v = ladder2 (non (eqb (length v) headBytes)) (non (headFits (headOf v))) 4 5 (omega arith) (omega arith)
+abbrev Known : List ℕ → ℕ → State → Type 0
+Known s k st = Behind s k (st .tag) (st .places) (st .got .events)
 
-row-most : (x : Execution) (v : List ℕ) → rowFault (x .head) (x .events) (x .rows) v ≤ 9
-unfolding rowFault
-row-most x v = ladder2 (non (eqb (length v) (rowBytes (x .head .edition)))) (non (rowFits (x .events) (x .rows) (rowOf v))) 4 7 (omega arith) (omega arith)
+-- only the first field has no tag before it
+first-field : (s : List ℕ) (k : ℕ) → (1 ≤ k → 1 ≤ lastTag s k) → lastTag s k ≡ 0 → k ≡ 0
+first-field s zero l e = refl
+first-field s (suc j) l e = absurd (let h = l (omega arith) in omega arith)
 
-pair-most : (x : Execution) (v : List ℕ) → pairFault (x .events) (x .pairs) v ≤ 9
-unfolding pairFault
-pair-most x v =
-    cond-le (non (eqb (length v) pairBytes)) 9 4 (cond (non (pairFits (x .events) (x .pairs) (pairOf v))) 8 (cond (non (ltb (length (x .pairs)) maxPairs)) 9 0)) (omega arith)
-    (ladder2 (non (pairFits (x .events) (x .pairs) (pairOf v))) (non (ltb (length (x .pairs)) maxPairs)) 8 9 (omega arith) (omega arith))
+later-field : (s : List ℕ) (k : ℕ) → 1 ≤ lastTag s k → 1 ≤ k
+later-field s zero h = absurd (omega arith)
+later-field s (suc j) h = omega arith
 
-event-most : (x : Execution) (v : List ℕ) → eventFault (x .head) (x .events) v ≤ 9
-unfolding eventFault
-event-most x v =
-    go (ltb (length v) (eventBytes (x .head .edition))) (non (eventFits (x .head) (x .events) (agentOf v) (shapeOf v)))
-    (non (eqb (length v) (eventBytes (x .head .edition) + dataBytes (shapeOf v)))) (non (roomFor (x .events) (agentOf v)))
+known-blank : (s : List ℕ) → Known s 0 blank
+known-blank s =
+    record {
+      last = refl;
+      some-last = λ h. absurd (omega arith);
+      count = λ h. omega arith;
+      same = refl;
+      event-place = λ e h. absurd (omega arith);
+      event-tag = λ e h. absurd (omega arith);
+      one = λ e h. absurd (omega arith);
+    }
+
+-- ---- one field more
+
+-- only an event's field adds an event
+taken-other : (x : Execution) (tag : ℕ) (v : List ℕ) → (tag ≡ 2 → ⊥) → taken x tag v .events ≡ x .events
+unfolding taken
+taken-other x tag v h =
+    rung Same (eqb tag 1) _ _ (λ _. refl)
+    (λ _. rung Same (eqb tag 2) _ _ (λ b. absurd (h (eqb-true _ _ b)))
+    (λ _. rung Same (eqb tag 3) _ _ (λ _. refl) (λ _. rung Same (eqb tag 4) _ _ (λ _. refl) (λ _. refl))))
   where
-    go : (a b c d : Bool) → cond a 4 (cond b 6 (cond c 4 (cond d 9 0))) ≤ 9
-    go true b c d = omega arith
-    go false true c d = omega arith
-    go false false c d = ladder2 c d 4 9 (omega arith) (omega arith)
+    Same : Execution → Type 0
+    Same y = y .events ≡ x .events
 
--- a field's fault is at most 9
-value-most : (x : Execution) (tag : ℕ) (v : List ℕ) → valueFault x tag v ≤ 9
-unfolding valueFault
-value-most x tag v = go (eqb tag 1) (eqb tag 2) (eqb tag 3) (eqb tag 4)
-  where
-    go : (a b c d : Bool)
-        → cond a (headFault v) (cond b (eventFault (x .head) (x .events) v) (cond c (rowFault (x .head) (x .events) (x .rows) v) (cond d (pairFault (x .events) (x .pairs) v) 3))) ≤ 9
-    go true b c d = head-most v
-    go false true c d = event-most x v
-    go false false true d = row-most x v
-    go false false false true = pair-most x v
-    go false false false false = omega arith
+module _ (s : List ℕ) (k : ℕ) (st : State) (f : faultAt s (fieldPlace s k) st ≡ 0) (w : Known s k st) where
+  abbrev q : ℕ
+  q = fieldPlace s k
 
-fault-most : (s : List ℕ) (p : ℕ) (st : State) → faultAt s p st ≤ 9
-unfolding faultAt
-fault-most s p st = go (ltb (length s) (p + fieldBytes)) (non (allowed (st .tag) (tagAt s p))) (ltb (length s) (nextAt s p))
-  where
-    go : (a b c : Bool) → cond a 2 (cond b 3 (cond c 2 (valueFault (st .got) (tagAt s p) (valueAt s p)))) ≤ 9
-    go true b c = omega arith
-    go false true c = omega arith
-    go false false true = omega arith
-    go false false false = value-most (st .got) (tagAt s p) (valueAt s p)
+  low : 1 ≤ tagNo s k
+  low = go (tagNo s k) (known s q st f)
+    where
+      go : (t : ℕ) → ((t ≡ 1 → ⊥) → (t ≡ 2 → ⊥) → (t ≡ 3 → ⊥) → (t ≡ 4 → ⊥) → ⊥) → 1 ≤ t
+      go zero h = absurd (h (λ e. omega arith) (λ e. omega arith) (λ e. omega arith) (λ e. omega arith))
+      go (suc t) h = omega arith
+
+  after-event : tagNo s k ≡ 2 → Known s (suc k) (after s q st)
+  unfolding after taken
+  after-event e = simp e longer
+    where
+      new : Event
+      new = eventOf (st .got .head .edition) (valueAt s q)
+
+      counted : k ≡ suc (length (st .places))
+      counted =
+          let t = was-2 s q st f e in
+          let l = w .last in
+          let c = w .count (t .1) in
+          let b = later-field s k (omega arith) in
+          omega arith
+
+      here : (i : ℕ) → i ≡ length (st .places) → k ≡ suc i
+      here i a = let c = counted in omega arith
+
+      place : (i : ℕ) → i < length (st .places ++ (q ∷ [])) → getD (st .places ++ (q ∷ [])) i 0 ≡ fieldPlace s (suc i)
+      place i h =
+          ⊎-elim (λ a. last-at 0 (st .places) q i a ∙ ap (fieldPlace s) (here i a)) (λ a. List·getD-append (st .places) (q ∷ []) 0 i a ∙ w .event-place i a)
+          (snoc-split 0 (st .places) q i h)
+
+      longer : Behind s (suc k) 2 (st .places ++ (q ∷ [])) (st .got .events ++ (new ∷ []))
+      longer =
+          let l = length-append (st .places) (q ∷ []) in
+          let m = length-append (st .got .events) (new ∷ []) in
+          let n = w .same in
+          let c = counted in
+          record {
+            last = sym e;
+            some-last = λ h. low;
+            count = λ h. omega arith;
+            same = omega arith;
+            event-place = place;
+            event-tag = λ i h. ⊎-elim (λ a. ap (tagNo s) (sym (here i a)) ∙ e) (w .event-tag i) (snoc-split 0 (st .places) q i h);
+            one = each-snoc nobody OneAccess (st .got .events) new (w .one) (accessOf (st .got .head .edition) (valueAt s q), refl);
+          }
+
+  after-other : (tagNo s k ≡ 2 → ⊥) → Known s (suc k) (after s q st)
+  unfolding after
+  after-other d =
+      rw (ne-eqb (tagNo s k) 2 d, taken-other (st .got) (tagNo s k) (valueAt s q) d)
+      (record {
+        last = refl;
+        some-last = λ h. low;
+        count = counted;
+        same = w .same;
+        event-place = w .event-place;
+        event-tag = w .event-tag;
+        one = w .one;
+      })
+    where
+      counted : tagNo s k ≤ 2 → suc k - 1 ≡ length (st .places)
+      counted h =
+          let b = low in
+          let t : tagNo s k ≡ 1 = omega arith in
+          let z = was-none s q st f t in
+          let l = w .last in
+          let c = w .count (omega arith) in
+          let o = first-field s k (w .some-last) (omega arith) in
+          omega arith
+
+  known-after : Known s (suc k) (after s q st)
+  known-after = go (eqb (tagNo s k) 2) refl
+    where
+      go : (b : Bool) → eqb (tagNo s k) 2 ≡ b → Known s (suc k) (after s q st)
+      go true e = after-event (eqb-true _ _ e)
+      go false e = after-other (eqb-false _ _ e)
+
+-- ---- all fields
 
 place-is : (n p : ℕ) → placeOf n p ≡ p
 unfolding placeOf
 place-is n p = refl
 
--- what is known of a refusal
-record Lies (s : List ℕ) (n p : ℕ) : Type 0 where
-  least : 1 ≤ n
-  most : n ≤ 11
-  place : p ≤ length s
-
-lies-of : (s : List ℕ) (n p m o : ℕ) → refused n p ≡ refused m o → 1 ≤ n → n ≤ 11 → p ≤ length s → Lies s m o
-lies-of s n p m o e a b c = let f : n ≡ m = cc in let g : p ≡ o = cc in record { least = omega arith; most = omega arith; place = omega arith }
+none-read : (x : Execution) → any readsSome (x .events) ≡ false → (e : ℕ) → T (readsSome (event x e)) → ⊥
+unfolding event eventNo readsSome any
+none-read x h e t = false-T _ h (any-intro readsSome (x .events) (event x e) (getD-mem nobody (x .events) e (is-event readsSome refl x e t)) t)
 
 module _ (s : List ℕ) (n p : ℕ) where
-  finish-lies : (st : State) → ((i : ℕ) → getD (st .places) i 0 ≤ length s) → finish s st ≡ refused n p → Lies s n p
-  unfolding finish completed placeOf
-  finish-lies st h e = go (eqb (st .tag) 0) refl (non (any readsSome (st .got .events))) refl (lowestLacking (st .got)) refl
-    where
-      go : (a : Bool) → eqb (st .tag) 0 ≡ a → (b : Bool) → non (any readsSome (st .got .events)) ≡ b → (o : Option ℕ) → lowestLacking (st .got) ≡ o → Lies s n p
-      go true q b r o t = lies-of s 3 0 n p (simp q at e) (omega arith) (omega arith) (omega arith)
-      go false q true r o t = lies-of s 10 (length s) n p (simp (q, r) at e) (omega arith) (omega arith) (omega arith)
-      go false q false r none t =
-          let f : whole (st .got) ≡ refused n p = simp (q, r, t) at e in absurd (let z : _≡_ {A = ℕ} 0 1 = cc f in omega arith)
-      go false q false r (some i) t = lies-of s 11 (getD (st .places) i 0) n p (simp (q, r, t) at e) (omega arith) (omega arith) (h i)
+  -- the refusal that is given is the one that has a row
+  given : {m o : ℕ} → Refusal s m o → refused m o ≡ refused n p → Refusal s n p
+  given {m} {o} r e = let f : m ≡ n = cc in let g : o ≡ p = cc in subst (λ (i : ℕ). Refusal s i p) f (subst (Refusal s m) g r)
 
-  places-more : (st : State) (q : ℕ) → q ≤ length s → ((i : ℕ) → getD (st .places) i 0 ≤ length s) → (i : ℕ) → getD (after s q st .places) i 0 ≤ length s
-  unfolding after
-  places-more st q b h i = go (eqb (tagAt s q) 2)
+  finish-refused : (k : ℕ) (st : State) → length s ≤ fieldPlace s k → Known s k st → st .got ≡ described s → finish s st ≡ refused n p → Refusal s n p
+  unfolding finish completed fieldPlace event eventNo
+  finish-refused k st b w g e = go (eqb (st .tag) 0) refl (non (any readsSome (st .got .events))) refl (lowestLacking (st .got)) refl
     where
-      longer : getD (st .places ++ (q ∷ [])) i 0 ≤ length s
-      longer = pick (ltb i (length (st .places ++ (q ∷ [])))) refl
+      go : (a : Bool) → eqb (st .tag) 0 ≡ a → (c : Bool) → non (any readsSome (st .got .events)) ≡ c → (o : Option ℕ) → lowestLacking (st .got) ≡ o → Refusal s n p
+      go true t c r o l = given (Refusal.empty ends) (simp t at e)
         where
-          pick : (c : Bool) → ltb i (length (st .places ++ (q ∷ []))) ≡ c → getD (st .places ++ (q ∷ [])) i 0 ≤ length s
-          pick true e =
-              ⊎-elim (λ f. subst (λ (k : ℕ). k ≤ length s) (sym (last-at 0 (st .places) q i f)) b)
-              (λ f. subst (λ (k : ℕ). k ≤ length s) (sym (List·getD-append (st .places) (q ∷ []) 0 i f)) (h i))
-              (snoc-split 0 (st .places) q i (ltb-true _ _ e))
-          pick false e = subst (λ (k : ℕ). k ≤ length s) (sym (List·getD-eq-default (st .places ++ (q ∷ [])) 0 (ltb-false _ _ e))) (omega arith)
+          ends : length s ≡ 0
+          ends =
+              let z = eqb-true (st .tag) 0 t in
+              let y = w .last in
+              let i = first-field s k (w .some-last) (omega arith) in
+              let h = subst (λ (j : ℕ). length s ≤ fieldPlace s j) i b in
+              omega arith
+      go false t true r o l =
+          given (Refusal.none-reads (λ i. subst (λ (x : Execution). T (readsSome (event x i)) → ⊥) g (none-read (st .got) (non-true _ r) i))) (simp (t, r) at e)
+      go false t false r none l =
+          let f : whole (st .got) ≡ refused n p = simp (t, r, l) at e in absurd (let z : _≡_ {A = ℕ} 0 1 = cc f in omega arith)
+      go false t false r (some i) l =
+          let y = lowest-rowless (st .got) i (w .one) l in
+          let m : i < length (st .places) = let c = w .same in let d = y .0 in omega arith in
+          given
+          (Refusal.no-row i (w .event-tag i m) (subst (λ (x : Execution). RowlessAt x i) g (y .1)) (λ d h x. y .2 d h (subst (λ (z : Execution). RowlessAt z d) (sym g) x)))
+          (ap (refused 11) (sym (place-is 11 _ ∙ w .event-place i m)) ∙ simp (t, r, l) at e)
 
-      go : (c : Bool) → getD (cond c (st .places ++ (q ∷ [])) (st .places)) i 0 ≤ length s
-      go true = longer
-      go false = h i
+  -- from field number k on, with fuel f
+  abbrev Goes : ℕ → ℕ → Type 0
+  Goes f k = (st : State) → length s < f + fieldPlace s k → fieldPlace s k ≤ length s → Known s k st → fieldsTaken s f (fieldPlace s k) st .got ≡ described s
+      → fieldsFrom s f (fieldPlace s k) st ≡ refused n p → Refusal s n p
 
-  fields-lie : (k q : ℕ) (st : State) → length s < k + q → ((i : ℕ) → getD (st .places) i 0 ≤ length s) → q ≤ length s → fieldsFrom s k q st ≡ refused n p → Lies s n p
-  fields-lie zero q st f h b e = absurd (omega arith)
-  fields-lie (suc k) q st f h b e = turn (λ st₁ h₁ b₁ f₁ e₁. fields-lie k (nextAt s q) st₁ f₁ h₁ b₁ e₁) (ltb q (length s)) refl (faultAt s q st) refl
+  one-more : (f k : ℕ) → Goes f (suc k) → Goes (suc f) k
+  unfolding fieldPlace
+  one-more f k again st b i w g e = turn (ltb q (length s)) refl (faultAt s q st) refl
     where
-      turn : ((st₁ : State) → ((i : ℕ) → getD (st₁ .places) i 0 ≤ length s) → nextAt s q ≤ length s → length s < k + nextAt s q → fieldsFrom s k (nextAt s q) st₁ ≡ refused n p → Lies s n p)
-          → (c : Bool) → ltb q (length s) ≡ c → (g : ℕ) → faultAt s q st ≡ g → Lies s n p
-      turn again false r g t = finish-lies st h (sym (at-end s k q st (ltb-false _ _ r)) ∙ e)
-      turn again true r zero t =
-          again (after s q st) (places-more st q b h) (inside s q st t) (omega arith) (sym (at-field s k q st (ltb-true _ _ r) t) ∙ e)
-      turn again true r (suc g) t = at-a-fault (sym (at-fault s k q st (suc g) (ltb-true _ _ r) t (λ d. omega arith)) ∙ e)
-        where
-          at-a-fault : refused (suc g) (placeOf (suc g) q) ≡ refused n p → Lies s n p
-          at-a-fault d = let m = fault-most s q st in lies-of s (suc g) (placeOf (suc g) q) n p d (omega arith) (omega arith) (place-fits (suc g) q b)
-            where
-              place-fits : (j o : ℕ) → o ≤ length s → placeOf j o ≤ length s
-              place-fits j o u = subst (λ (i : ℕ). i ≤ length s) (sym (place-is j o)) u
+      q : ℕ
+      q = fieldPlace s k
 
-  refusal-lies : parse s ≡ refused n p → Lies s n p
-  unfolding parse
-  refusal-lies e = go (ltb maxBytes (length s)) refl
-    where
-      go : (b : Bool) → ltb maxBytes (length s) ≡ b → Lies s n p
-      go true q = lies-of s 1 0 n p (simp q at e) (omega arith) (omega arith) (omega arith)
-      go false q = fields-lie (suc (length s)) 0 blank (omega arith) (λ i. subst (λ (k : ℕ). k ≤ length s) (sym (List·getD-eq-default [] 0 {n = i} (omega arith))) (omega arith)) (omega arith) (simp q at e)
+      turn : (c : Bool) → ltb q (length s) ≡ c → (m : ℕ) → faultAt s q st ≡ m → Refusal s n p
+      turn false r m t =
+          let h = ltb-false q (length s) r in
+          finish-refused k st h w (ap (λ (y : State). y .got) (sym (taken-end s f q st h)) ∙ g) (sym (at-end s f q st h) ∙ e)
+      turn true r zero t =
+          let h = ltb-true q (length s) r in
+          again (after s q st) (omega arith) (inside s q st t) (known-after s k st t w) (ap (λ (y : State). y .got) (sym (taken-more s f q st h)) ∙ g) (sym (at-field s f q st h t) ∙ e)
+      turn true r (suc m) t =
+          let h = ltb-true q (length s) r in
+          given (Refusal.at-field k h (blamed s k st (w .last) (w .some-last) m t))
+          (ap (refused (suc m)) (sym (place-is (suc m) q)) ∙ sym (at-fault s f q st (suc m) h t (λ d. omega arith)) ∙ e)
 
-  pub refusal-number : parse s ≡ refused n p → (1 ≤ n) × (n ≤ 11)
-  refusal-number e = let l = refusal-lies e in (l .least, l .most)
+  fields-refused : (f k : ℕ) → Goes f k
+  fields-refused zero k = λ st b i w g e. absurd (omega arith)
+  fields-refused (suc f) k = one-more f k (fields-refused f (suc k))
 
-  pub refusal-place : parse s ≡ refused n p → p ≤ length s
-  refusal-place e = refusal-lies e .place
+pub refusal : Tabled
+unfolding parse described fieldPlace
+refusal s n p e = go (ltb maxBytes (length s)) refl
+  where
+    go : (b : Bool) → ltb maxBytes (length s) ≡ b → Refusal s n p
+    go true q = given s n p (Refusal.too-long (ltb-true _ _ q)) (simp q at e)
+    go false q = fields-refused s n p (suc (length s)) 0 blank (omega arith) (omega arith) (known-blank s) refl (simp q at e)
+
+pub refusal-number : (s : List ℕ) (n p : ℕ) → parse s ≡ refused n p → (1 ≤ n) × (n ≤ 11)
+refusal-number s n p e = go (refusal s n p e)
+  where
+    field : {k m : ℕ} → Blames s k m → (1 ≤ m) × (m ≤ 11)
+    field (Blames.cut h) = (omega arith, omega arith)
+    field (Blames.tag h) = (omega arith, omega arith)
+    field (Blames.long h j) = (omega arith, omega arith)
+    field (Blames.of-head h) = (omega arith, omega arith)
+    field (Blames.of-event h) = (omega arith, omega arith)
+    field (Blames.of-row h) = (omega arith, omega arith)
+    field (Blames.of-pair h) = (omega arith, omega arith)
+    field (Blames.one-event-more h) = (omega arith, omega arith)
+    field (Blames.one-pair-more h) = (omega arith, omega arith)
+
+    go : {m o : ℕ} → Refusal s m o → (1 ≤ m) × (m ≤ 11)
+    go (Refusal.too-long h) = (omega arith, omega arith)
+    go (Refusal.at-field k h b) = field b
+    go (Refusal.empty h) = (omega arith, omega arith)
+    go (Refusal.none-reads h) = (omega arith, omega arith)
+    go (Refusal.no-row i t r h) = (omega arith, omega arith)
+
+pub refusal-place : (s : List ℕ) (n p : ℕ) → parse s ≡ refused n p → p ≤ length s
+refusal-place s n p e = go (refusal s n p e)
+  where
+    tagged : (q : ℕ) → tagAt s q ≡ 2 → q ≤ length s
+    tagged q t = at (ltb q (length s)) refl
+      where
+        at : (b : Bool) → ltb q (length s) ≡ b → q ≤ length s
+        at true r = let h = ltb-true q (length s) r in omega arith
+        at false r = absurd (let z = List·getD-eq-default s 0 (ltb-false q (length s) r) in omega arith)
+
+    go : {m o : ℕ} → Refusal s m o → o ≤ length s
+    go (Refusal.too-long h) = omega arith
+    go (Refusal.at-field k h b) = omega arith
+    go (Refusal.empty h) = omega arith
+    go (Refusal.none-reads h) = omega arith
+    go (Refusal.no-row i t r h) = tagged (fieldPlace s (suc i)) t

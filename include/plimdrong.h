@@ -38,8 +38,8 @@
  * CONSISTENT, kind 3: the memory model allows the execution. Number 0: orderly, all names none. Number 1: not orderly,
  * the first two names are the lowest unsettled pair. The scratch's needed part is zero. The order buffer's first bytes,
  * one for each event, hold the first order that meets the rules; its rest is unchanged. The word does not carry the
- * number of events: a buffer filled with PLIMDRONG_NONE before the call shows where the order ends, since no event has
- * that number.
+ * number of events: fill the buffer with PLIMDRONG_NONE before the call, and the order ends at the first PLIMDRONG_NONE,
+ * since no event has that number, or at the buffer's end: 20 events in 20 bytes leave none.
  *
  * THE SCRATCH needs, with n events that are not inits, the larger of 1 and 2^n / 8 bytes; what it holds on entry does
  * not matter. The buffers overlap neither each other nor the sheet. A length may be 0; no pointer may be null.

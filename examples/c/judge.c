@@ -1,4 +1,5 @@
-/* judge FILE..: judges the sheets in the files and prints for each the word and the line.
+/* judge FILE..: judges the sheets in the files and prints for each the word and the line. Status: 0 all were printed; 2 a
+ * file could not be read, or a line could not be written, and standard error says so.
  *
  *   harness/native.sh
  *   cc -Iinclude examples/c/judge.c target/native/libjudge_c.a -o target/judge
@@ -59,11 +60,21 @@ int main(int count, char **names) {
             return 2;
         }
         length = fread(sheet, 1, sizeof sheet, file);
+        /* a read that failed is no end of the file: what came before it is no sheet */
+        if (ferror(file)) {
+            perror(names[i]);
+            fclose(file);
+            return 2;
+        }
         fclose(file);
         memset(order, PLIMDRONG_NONE, sizeof order);
         word = plimdrong_judge(sheet, length, scratch, sizeof scratch, order, sizeof order);
         printf("%011llx ", (unsigned long long)word);
         print_line(word, order);
+    }
+    if (fflush(stdout) != 0 || ferror(stdout)) {
+        perror("standard output");
+        return 2;
     }
     return 0;
 }

@@ -43,8 +43,23 @@ fn runs_litmus(program: PathBuf) {
     }
 }
 
+/// What cannot be read gets no line, and what cannot be written is said: status 2, and a message.
+fn tells_failures(program: PathBuf) {
+    let first = root().join("examples/first.sheet");
+    for file in [root().join("examples"), root().join("examples/none.sheet")] {
+        let out = Command::new(&program).arg(&file).output().unwrap();
+        assert_eq!((out.status.code(), out.stdout.len()), (Some(2), 0), "{}", file.display());
+        assert!(!out.stderr.is_empty(), "{}", file.display());
+    }
+    let full = std::fs::OpenOptions::new().write(true).open("/dev/full").unwrap();
+    let out = Command::new(&program).arg(first).stdout(full).output().unwrap();
+    assert_eq!(out.status.code(), Some(2));
+    assert!(!out.stderr.is_empty());
+}
+
 #[test]
 fn c() {
+    tells_failures(compiled("gcc", "c", "c99"));
     for standard in ["c99", "c11", "c17"] {
         runs_litmus(compiled("gcc", "c", standard));
     }

@@ -1,5 +1,6 @@
 -- A sheet judged and told as a line (01, "What comes back": "writes one line"). Laws: proofs/ToldLaws.antt.
---     placed order     the events of an order buffer that was lent full of 255: no event has that number
+--     unused           the byte that a place of the order buffer holds before the call: no event has that number
+--     placed order     the events of an order buffer that was lent full of it
 --     Told             the line of an answer that the judge's contract allows, and all buffers as they are then
 -- Assumes nothing.
 use mathlib.Core.Bool.{cond}
@@ -11,9 +12,12 @@ use Rattle.report.specs.Lined.{Lined}
 use Rattle.model.specs.Judged.{Judged}
 
 -- 01: "255 for none"
+abbrev pub unused : ℕ
+unused = 255
+
 unfoldable pub placed : List ℕ → List ℕ
 placed [] = []
-placed (e ∷ l) = cond (eqb e 255) [] (e ∷ placed l)
+placed (e ∷ l) = cond (eqb e unused) [] (e ∷ placed l)
 
 pub record Told (sheet scratch order out : List ℕ) (r : ℕ) (scratch′ order′ out′ : List ℕ) : Type 0 where
   pub answer : Answer

@@ -4,14 +4,29 @@ ghost use Prim.Native.Nat.{_≤_};
 ghost use lib.ListN.{length, take};
 ghost use Rattle.tell.specs.Told.{placed, Told};
 
-// How many events stand in an order buffer that was lent full of 255.
+// The buffers that are enough for every sheet (`Enough`, specs/Demands.antt). One byte more than the longest sheet, so that a longer one is seen.
+pub const SHEET_BYTES: usize = 4097;
+
+// A bit for each set of 16 events that are not inits.
+pub const SCRATCH_BYTES: usize = 8192;
+
+// A byte for each event.
+pub const ORDER_BYTES: usize = 20;
+
+// The longest line: 34 bytes, and four for each event.
+pub const LINE_BYTES: usize = 114;
+
+// What a place of the order buffer holds before the call: no event has that number.
+pub const UNUSED: u8 = 255;
+
+// How many events stand in an order buffer that was lent full of `UNUSED`.
 fn count(order: &[u8]) -> usize
     ensures within { λ r. ⌜ r ≤ length (now (order .entry)) ⌝ }
     ensures counted { λ r. ⌜ take r (now (order .entry)) ≡ placed (now (order .entry)) ⌝ }
 {
     let mut n = 0;
     while n < order.len() {
-        if order[n] == 255 {
+        if order[n] == UNUSED {
             return n;
         }
         n += 1;
@@ -19,7 +34,7 @@ fn count(order: &[u8]) -> usize
     n
 }
 
-// Judges the sheet and writes the line of its answer; returns the line's length, 0 where it does not fit. The order buffer is lent full of 255.
+// Judges the sheet and writes the line of its answer; returns the line's length, 0 where it does not fit. The order buffer is lent full of `UNUSED`.
 pub fn tell(sheet: &[u8], scratch: &mut [u8], order: &mut [u8], out: &mut [u8]) -> usize
     ensures { λ r. ⌜ Told (now (sheet .entry)) (now (scratch .entry)) (now (order .entry)) (now (out .entry)) r (now (scratch .exit)) (now (order .exit)) (now (out .exit)) ⌝ }
 {

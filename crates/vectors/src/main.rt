@@ -1,7 +1,9 @@
 // The judge on any number of sheets from standard input, each after its length in two bytes; a line for each. For tests; stdin and stdout are
-// the litmus sheets (examples/litmus), made by tests/litmus/make.sh.
+// the litmus sheets (examples/litmus), made by tests/litmus/make.sh. An input that ends inside a sheet, a read or a write that fails is said on
+// standard error.
 ghost use Prim.Native.Nat.{_≤_};
 ghost use lib.ListN.{length};
+use libc::STDERR_FILENO;
 use libc::STDIN_FILENO;
 use libc::STDOUT_FILENO;
 
@@ -19,7 +21,29 @@ fn told(s: &[u8]) {
     let mut order = [255u8; 32];
     let mut out = [0u8; 256];
     let k = tell::tell(s, &mut scratch, &mut order, &mut out);
-    io::write_all(STDOUT_FILENO, &out[..k]);
+    if !io::write_all(STDOUT_FILENO, &out[..k]) {
+        io::write_all(STDERR_FILENO, b"vectors: a line could not be written\n");
+    }
+}
+
+// Says that a sheet is not whole.
+fn cut() {
+    io::write_all(
+        STDERR_FILENO,
+        b"vectors: the input ends inside a sheet, or a read failed\n",
+    );
+}
+
+// After a read of less than a length: says so, unless this is the plain end of the input. A read that failed fails again.
+fn ended(got: usize) {
+    let mut next = [0u8; 1];
+    if got != 0 {
+        cut();
+        return;
+    }
+    if libc::read(STDIN_FILENO, &mut next) < 0 {
+        cut();
+    }
 }
 
 // The next n bytes of the input as a sheet; false where the input ends before.
@@ -29,6 +53,7 @@ fn sheet_of(space: &mut [u8], n: usize) -> bool
     let part = &mut space[..n];
     let k = io::read_full(STDIN_FILENO, part);
     if k < n {
+        cut();
         return false;
     }
     told(part);
@@ -42,6 +67,7 @@ fn one(space: &mut [u8]) -> bool
     let mut head = [0u8; 2];
     let got = io::read_full(STDIN_FILENO, &mut head);
     if got < 2 {
+        ended(got);
         return false;
     }
     let n = length_of(head[0], head[1]);

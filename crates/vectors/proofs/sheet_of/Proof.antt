@@ -1,10 +1,6 @@
 -- `vectors::sheet_of` is safe: the part has the length asked for. Rests on the reads and writes of `io`.
+use mathlib.Core.Path.{sym}
 use lib.Seq.{length-take-le}
-use Prim.Native.Nat.{ℕ, _+_, _-_, _*_, _^_, _/_, _%_, _≤_, _<_}
-use native.Mathlib.Omega.{arith}
-use mathlib.Core.Path.{_≡_, refl, sym, ap, _∙_}
-use mathlib.Core.Logic.{⊎-elim}
-use lib.ListN.{length, length-set, getD, set}
 use borrow.Author.Needs.{needs}
 use Rattle.vectors.proofs.sheet_of.Statement.{statement}
 use Rattle.vectors.proofs.sheet_of.Tie as tie
@@ -17,6 +13,9 @@ slice-aggregate-part c = sym (length-take-le _ _ (c .before .before .pre))
 
 read-full-requires : tie.Need-read-full-requires
 read-full-requires c κs = search needs
+
+cut-requires : tie.Need-cut-requires
+cut-requires c κs = search needs
 
 same-length : tie.Need-same-length
 same-length c = search needs
@@ -40,6 +39,7 @@ sheet-of-spec =
     slice-relend-prefix-part
     slice-aggregate-part
     read-full-requires
+    cut-requires
     same-length
     returns
     told-requires

@@ -13,7 +13,7 @@ pub enum Names {
     Event(u8),
     // 24: reader, writer, the write between, address
     Between(u8, u8, u8, u8),
-    // 25: reader, writer, the write between
+    // 25: reader, writer, a second writer
     Torn(u8, u8, u8),
     // 26
     Nobody,

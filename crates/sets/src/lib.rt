@@ -1,4 +1,4 @@
-// Sets of events as masks, the table of set bits in lent bytes, and closure by rows. No function has a `requires`.
+// Sets of events as masks, the table of set bits in lent bytes, and closure by rows. No public function has a `requires`.
 ghost use mathlib.Core.Path.{_≡_};
 ghost use Prim.Native.Nat.{ℕ, _%_, _<_, _≤_, min};
 ghost use lib.ListN.{length};

@@ -4,19 +4,21 @@
 --     refusal-place : parse s ≡ refused n p → p ≤ length s
 -- Assumes nothing.
 use mathlib.Core.Path.{_≡_, refl, sym, ap, _∙_, subst}
-use mathlib.Core.Logic.{⊎-elim}
+use mathlib.Core.Logic.{_⊎_, inl, inr, ⊎-elim}
 use mathlib.Core.Bool.{Bool, true, false}
 use mathlib.Core.List.{List, [], _∷_, _++_}
 use mathlib.Core.Option.{Option, none, some}
 use Prim.Native.Nat.{ℕ, zero, suc, _+_, _-_, _<_, _≤_}
 use native.Mathlib.Omega.{arith}
+use native.Mathlib.Nat.{eq-or-lt-of-le, le-of-eq, le-of-suc-le-suc}
+use native.Mathlib.Decide.{decLt}
 use borrow.Author.Tests.{ltb-true, ltb-false, eqb-true, eqb-false, ne-eqb}
 use lib.Dec.{T, eqb, ltb}
 use lib.ListN.{length, getD, length-append, List·getD-eq-default, List·getD-append}
 use Rattle.basis.specs.Test.{non, any}
-use Rattle.basis.proofs.TestLaws.{any-intro}
-use Rattle.basis.proofs.LoopLaws.{false-T, non-true}
-use Rattle.basis.proofs.ListLaws.{snoc-split, last-at, each-snoc, getD-mem}
+use Rattle.basis.proofs.TestLaws.{any-elim, any-intro}
+use Rattle.basis.proofs.LoopLaws.{true-T, false-T, non-true, non-false}
+use Rattle.basis.proofs.ListLaws.{snoc-split, last-at, each-snoc, mem-getD, getD-mem}
 use Rattle.format.specs.Limits.{maxBytes}
 use Rattle.format.specs.Layout.{accessOf, eventOf}
 use Rattle.format.specs.Event.{Event, nobody, readsSome}
@@ -24,7 +26,7 @@ use Rattle.format.specs.Execution.{Execution, event, eventNo}
 use Rattle.format.specs.Field.{tagAt, valueAt, fieldPlace}
 use Rattle.sheet.specs.Parse.{refused, whole, placeOf, State, blank, faultAt, taken, after, lowestLacking, completed, finish, fieldsFrom, parse}
 use Rattle.sheet.specs.Described.{fieldsTaken, described, RowlessAt}
-use Rattle.sheet.specs.Refusal.{tagNo, Blames, Refusal, Tabled}
+use Rattle.sheet.specs.Refusal.{stateNo, faultNo, Faultless, tagNo, Blames, Refusal, Tabled}
 use Rattle.sheet.proofs.ParseLaws.{inside, was-none, was-2, known, at-end, at-fault, at-field}
 use Rattle.sheet.proofs.DescribedLaws.{taken-end, taken-more}
 use Rattle.sheet.proofs.LackLaws.{is-event, OneAccess, lowest-rowless}
@@ -167,18 +169,43 @@ place-is : (n p : ℕ) → placeOf n p ≡ p
 unfolding placeOf
 place-is n p = refl
 
+-- a field that stands inside the sheet is one of those before the end
+place-rises : (s : List ℕ) (j k : ℕ) → k ≤ j → fieldPlace s k ≤ fieldPlace s j
+unfolding fieldPlace
+place-rises s zero k h = let e : k ≡ 0 = omega arith in le-of-eq (ap (fieldPlace s) e)
+place-rises s (suc j) k h = go (place-rises s j k) (eq-or-lt-of-le h)
+  where
+    go : (k ≤ j → fieldPlace s k ≤ fieldPlace s j) → (k ≡ suc j) ⊎ (k < suc j) → fieldPlace s k ≤ fieldPlace s (suc j)
+    go again (inl e) = le-of-eq (ap (fieldPlace s) e)
+    go again (inr l) = let r = again (omega arith) in omega arith
+
+faultless : (s : List ℕ) (k : ℕ) → length s ≤ fieldPlace s k → ((j : ℕ) → j < k → faultNo s j ≡ 0) → Faultless s
+faultless s k b clean j h = go (decLt j k)
+  where
+    go : Dec (j < k) → faultNo s j ≡ 0
+    go (yes l) = clean j l
+    go (no l) = let r = place-rises s j k (omega arith) in absurd (omega arith)
+
+some-read : (x : Execution) → any readsSome (x .events) ≡ true → (e : ℕ) × T (readsSome (event x e))
+unfolding event eventNo
+some-read x h = let w = any-elim readsSome (x .events) (true-T _ h) in let i = mem-getD nobody (w .1) in (i .0, subst (λ (d : Event). T (readsSome d)) (sym (i .2)) (w .2))
+
 none-read : (x : Execution) → any readsSome (x .events) ≡ false → (e : ℕ) → T (readsSome (event x e)) → ⊥
 unfolding event eventNo readsSome any
 none-read x h e t = false-T _ h (any-intro readsSome (x .events) (event x e) (getD-mem nobody (x .events) e (is-event readsSome refl x e t)) t)
 
-module _ (s : List ℕ) (n p : ℕ) where
-  -- the refusal that is given is the one that has a row
-  given : {m o : ℕ} → Refusal s m o → refused m o ≡ refused n p → Refusal s n p
-  given {m} {o} r e = let f : m ≡ n = cc in let g : o ≡ p = cc in subst (λ (i : ℕ). Refusal s i p) f (subst (Refusal s m) g r)
+-- the refusal that is given is the one that has a row
+said : (s : List ℕ) (n p : ℕ) {m o : ℕ} → Refusal s m o → refused m o ≡ refused n p → Refusal s n p
+said s n p {m} {o} r e = let f : m ≡ n = cc in let g : o ≡ p = cc in subst (λ (i : ℕ). Refusal s i p) f (subst (Refusal s m) g r)
 
-  finish-refused : (k : ℕ) (st : State) → length s ≤ fieldPlace s k → Known s k st → st .got ≡ described s → finish s st ≡ refused n p → Refusal s n p
+module _ (s : List ℕ) (n p : ℕ) (short : length s ≤ maxBytes) where
+  given : {m o : ℕ} → Refusal s m o → refused m o ≡ refused n p → Refusal s n p
+  given = said s n p
+
+  finish-refused : (k : ℕ) (st : State) → length s ≤ fieldPlace s k → ((j : ℕ) → j < k → faultNo s j ≡ 0) → Known s k st → st .got ≡ described s
+      → finish s st ≡ refused n p → Refusal s n p
   unfolding finish completed fieldPlace event eventNo
-  finish-refused k st b w g e = go (eqb (st .tag) 0) refl (non (any readsSome (st .got .events))) refl (lowestLacking (st .got)) refl
+  finish-refused k st b clean w g e = go (eqb (st .tag) 0) refl (non (any readsSome (st .got .events))) refl (lowestLacking (st .got)) refl
     where
       go : (a : Bool) → eqb (st .tag) 0 ≡ a → (c : Bool) → non (any readsSome (st .got .events)) ≡ c → (o : Option ℕ) → lowestLacking (st .got) ≡ o → Refusal s n p
       go true t c r o l = given (Refusal.empty ends) (simp t at e)
@@ -191,51 +218,62 @@ module _ (s : List ℕ) (n p : ℕ) where
               let h = subst (λ (j : ℕ). length s ≤ fieldPlace s j) i b in
               omega arith
       go false t true r o l =
-          given (Refusal.none-reads (λ i. subst (λ (x : Execution). T (readsSome (event x i)) → ⊥) g (none-read (st .got) (non-true _ r) i))) (simp (t, r) at e)
+          given (Refusal.none-reads short (faultless s k b clean) (λ i. subst (λ (x : Execution). T (readsSome (event x i)) → ⊥) g (none-read (st .got) (non-true _ r) i))) (simp (t, r) at e)
       go false t false r none l =
           let f : whole (st .got) ≡ refused n p = simp (t, r, l) at e in absurd (let z : _≡_ {A = ℕ} 0 1 = cc f in omega arith)
       go false t false r (some i) l =
           let y = lowest-rowless (st .got) i (w .one) l in
           let m : i < length (st .places) = let c = w .same in let d = y .0 in omega arith in
+          let a = some-read (st .got) (non-false _ r) in
           given
-          (Refusal.no-row i (w .event-tag i m) (subst (λ (x : Execution). RowlessAt x i) g (y .1)) (λ d h x. y .2 d h (subst (λ (z : Execution). RowlessAt z d) (sym g) x)))
+          (Refusal.no-row i short (faultless s k b clean) (a .0) (subst (λ (x : Execution). T (readsSome (event x (a .0)))) g (a .1)) (w .event-tag i m) (subst (λ (x : Execution). RowlessAt x i) g (y .1)) (λ d h x. y .2 d h (subst (λ (z : Execution). RowlessAt z d) (sym g) x)))
           (ap (refused 11) (sym (place-is 11 _ ∙ w .event-place i m)) ∙ simp (t, r, l) at e)
 
   -- from field number k on, with fuel f
   abbrev Goes : ℕ → ℕ → Type 0
-  Goes f k = (st : State) → length s < f + fieldPlace s k → fieldPlace s k ≤ length s → Known s k st → fieldsTaken s f (fieldPlace s k) st .got ≡ described s
-      → fieldsFrom s f (fieldPlace s k) st ≡ refused n p → Refusal s n p
+  Goes f k = length s < f + fieldPlace s k → fieldPlace s k ≤ length s → ((j : ℕ) → j < k → faultNo s j ≡ 0) → Known s k (stateNo s k)
+      → fieldsTaken s f (fieldPlace s k) (stateNo s k) .got ≡ described s → fieldsFrom s f (fieldPlace s k) (stateNo s k) ≡ refused n p → Refusal s n p
 
   one-more : (f k : ℕ) → Goes f (suc k) → Goes (suc f) k
-  unfolding fieldPlace
-  one-more f k again st b i w g e = turn (ltb q (length s)) refl (faultAt s q st) refl
+  unfolding fieldPlace stateNo
+  one-more f k again b i clean w g e = turn (ltb q (length s)) refl (faultAt s q st) refl
     where
       q : ℕ
       q = fieldPlace s k
 
+      st : State
+      st = stateNo s k
+
+      still : faultAt s q st ≡ 0 → (j : ℕ) → j < suc k → faultNo s j ≡ 0
+      still t j h = go (eq-or-lt-of-le (le-of-suc-le-suc h))
+        where
+          go : (j ≡ k) ⊎ (j < k) → faultNo s j ≡ 0
+          go (inl a) = ap (faultNo s) a ∙ t
+          go (inr a) = clean j a
+
       turn : (c : Bool) → ltb q (length s) ≡ c → (m : ℕ) → faultAt s q st ≡ m → Refusal s n p
       turn false r m t =
           let h = ltb-false q (length s) r in
-          finish-refused k st h w (ap (λ (y : State). y .got) (sym (taken-end s f q st h)) ∙ g) (sym (at-end s f q st h) ∙ e)
+          finish-refused k st h clean w (ap (λ (y : State). y .got) (sym (taken-end s f q st h)) ∙ g) (sym (at-end s f q st h) ∙ e)
       turn true r zero t =
           let h = ltb-true q (length s) r in
-          again (after s q st) (omega arith) (inside s q st t) (known-after s k st t w) (ap (λ (y : State). y .got) (sym (taken-more s f q st h)) ∙ g) (sym (at-field s f q st h t) ∙ e)
+          again (omega arith) (inside s q st t) (still t) (known-after s k st t w) (ap (λ (y : State). y .got) (sym (taken-more s f q st h)) ∙ g) (sym (at-field s f q st h t) ∙ e)
       turn true r (suc m) t =
           let h = ltb-true q (length s) r in
-          given (Refusal.at-field k h (blamed s k st (w .last) (w .some-last) m t))
+          given (Refusal.at-field k short h (record { none-before = clean; is = t; blames = blamed s k st (w .last) (w .some-last) m t }))
           (ap (refused (suc m)) (sym (place-is (suc m) q)) ∙ sym (at-fault s f q st (suc m) h t (λ d. omega arith)) ∙ e)
 
   fields-refused : (f k : ℕ) → Goes f k
-  fields-refused zero k = λ st b i w g e. absurd (omega arith)
+  fields-refused zero k = λ b i clean w g e. absurd (omega arith)
   fields-refused (suc f) k = one-more f k (fields-refused f (suc k))
 
 pub refusal : Tabled
-unfolding parse described fieldPlace
+unfolding parse described fieldPlace stateNo
 refusal s n p e = go (ltb maxBytes (length s)) refl
   where
     go : (b : Bool) → ltb maxBytes (length s) ≡ b → Refusal s n p
-    go true q = given s n p (Refusal.too-long (ltb-true _ _ q)) (simp q at e)
-    go false q = fields-refused s n p (suc (length s)) 0 blank (omega arith) (omega arith) (known-blank s) refl (simp q at e)
+    go true q = said s n p (Refusal.too-long (ltb-true _ _ q)) (simp q at e)
+    go false q = fields-refused s n p (ltb-false _ _ q) (suc (length s)) 0 (omega arith) (omega arith) (λ j h. absurd (omega arith)) (known-blank s) refl (simp q at e)
 
 pub refusal-number : (s : List ℕ) (n p : ℕ) → parse s ≡ refused n p → (1 ≤ n) × (n ≤ 11)
 refusal-number s n p e = go (refusal s n p e)
@@ -253,10 +291,10 @@ refusal-number s n p e = go (refusal s n p e)
 
     go : {m o : ℕ} → Refusal s m o → (1 ≤ m) × (m ≤ 11)
     go (Refusal.too-long h) = (omega arith, omega arith)
-    go (Refusal.at-field k h b) = field b
+    go (Refusal.at-field k l h b) = field (b .blames)
     go (Refusal.empty h) = (omega arith, omega arith)
-    go (Refusal.none-reads h) = (omega arith, omega arith)
-    go (Refusal.no-row i t r h) = (omega arith, omega arith)
+    go (Refusal.none-reads l f h) = (omega arith, omega arith)
+    go (Refusal.no-row i l f d a t r h) = (omega arith, omega arith)
 
 pub refusal-place : (s : List ℕ) (n p : ℕ) → parse s ≡ refused n p → p ≤ length s
 refusal-place s n p e = go (refusal s n p e)
@@ -270,7 +308,7 @@ refusal-place s n p e = go (refusal s n p e)
 
     go : {m o : ℕ} → Refusal s m o → o ≤ length s
     go (Refusal.too-long h) = omega arith
-    go (Refusal.at-field k h b) = omega arith
+    go (Refusal.at-field k l h b) = omega arith
     go (Refusal.empty h) = omega arith
-    go (Refusal.none-reads h) = omega arith
-    go (Refusal.no-row i t r h) = tagged (fieldPlace s (suc i)) t
+    go (Refusal.none-reads l f h) = omega arith
+    go (Refusal.no-row i l f d a t r h) = tagged (fieldPlace s (suc i)) t

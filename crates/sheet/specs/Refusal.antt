@@ -1,21 +1,34 @@
 -- Which refusal comes at which place (01, "Numbers of the refusals": the table, row by row). It is proved of every refusal that `parse` gives:
 -- proofs/RefusalLaws.antt (`refusal`).
+--     faultNo s k         the fault of field number k, behind the fields before it; 0 for none
+--     Faultless s         no field of s is at fault
 --     WrongTag s k        field number k has a tag that is not allowed there
---     Blames s k n        field number k can be refused by number n
---     Refusal s n p       number n at place p, by a row of the table
+--     Blames s k n        field number k can be refused by number n: a row of the table, said without the reader's tests
+--     Refusal s n p       number n at place p, by a row of the table, and nothing that is tested before it is at fault
 --     Tabled              every refusal is by a row of the table
 -- Assumes nothing.
 use mathlib.Core.Path.{_≡_}
 use mathlib.Core.List.{List}
-use Prim.Native.Nat.{ℕ, suc, _<_, _≤_}
+use Prim.Native.Nat.{ℕ, zero, suc, _<_, _≤_}
 use lib.Dec.{T}
 use lib.ListN.{length}
 use Rattle.format.specs.Limits.{maxBytes}
 use Rattle.format.specs.Event.{readsSome}
 use Rattle.format.specs.Execution.{event}
 use Rattle.format.specs.Field.{tagAt, nextAt, fieldPlace}
-use Rattle.sheet.specs.Parse.{refused, parse}
+use Rattle.sheet.specs.Parse.{refused, State, blank, faultAt, after, parse}
 use Rattle.sheet.specs.Described.{described, RowlessAt}
+
+-- what has been read behind k fields, and the fault of the next (specs/Parse.antt: `faultAt`, 01's tests of a field in their order)
+unfoldable pub stateNo : List ℕ → ℕ → State
+stateNo s zero = blank
+stateNo s (suc k) = after s (fieldPlace s k) (stateNo s k)
+
+abbrev pub faultNo : List ℕ → ℕ → ℕ
+faultNo s k = faultAt s (fieldPlace s k) (stateNo s k)
+
+abbrev pub Faultless : List ℕ → Type 0
+Faultless s = (k : ℕ) → fieldPlace s k < length s → faultNo s k ≡ 0
 
 -- the tag of field number k
 abbrev pub tagNo : List ℕ → ℕ → ℕ
@@ -43,17 +56,24 @@ pub data Blames (s : List ℕ) (k : ℕ) : ℕ → Type 0 where
   one-event-more : tagNo s k ≡ 2 → Blames s k 9
   one-pair-more : tagNo s k ≡ 4 → Blames s k 9
 
+-- 01: "Fields are taken front to back; the first at fault decides."
+pub record FirstFault (s : List ℕ) (k n : ℕ) : Type 0 where
+  pub none-before : (j : ℕ) → j < k → faultNo s j ≡ 0
+  pub is : faultNo s k ≡ n
+  pub blames : Blames s k n
+
 pub data Refusal (s : List ℕ) : ℕ → ℕ → Type 0 where
-  -- "1 sheet over 4,096 bytes: 0"
+  -- "1 sheet over 4,096 bytes; tested before all: 0"
   too-long : maxBytes < length s → Refusal s 1 0
   -- 2 to 9: "its tag"
-  at-field : {n : ℕ} (k : ℕ) → fieldPlace s k < length s → Blames s k n → Refusal s n (fieldPlace s k)
+  at-field : {n : ℕ} (k : ℕ) → length s ≤ maxBytes → fieldPlace s k < length s → FirstFault s k n → Refusal s n (fieldPlace s k)
   -- "3 .. the empty sheet: .. 0 if empty"
   empty : length s ≡ 0 → Refusal s 3 0
-  -- "10 no event reads: sheet length"
-  none-reads : ((e : ℕ) → T (readsSome (event (described s) e)) → ⊥) → Refusal s 10 (length s)
+  -- "10 no event reads: sheet length"; "10 to 13 are tested in that order after all fields."
+  none-reads : length s ≤ maxBytes → Faultless s → ((e : ℕ) → T (readsSome (event (described s) e)) → ⊥) → Refusal s 10 (length s)
   -- "11 a read byte without a row: tag of the lowest such event"; the head is field 0, event e field 1 + e
-  no-row : (e : ℕ) → tagNo s (suc e) ≡ 2 → RowlessAt (described s) e → ((d : ℕ) → d < e → RowlessAt (described s) d → ⊥) → Refusal s 11 (fieldPlace s (suc e))
+  no-row : (e : ℕ) → length s ≤ maxBytes → Faultless s → (d : ℕ) → T (readsSome (event (described s) d)) → tagNo s (suc e) ≡ 2 → RowlessAt (described s) e
+      → ((d : ℕ) → d < e → RowlessAt (described s) d → ⊥) → Refusal s 11 (fieldPlace s (suc e))
 
 abbrev pub Tabled : Type 0
 Tabled = (s : List ℕ) (n p : ℕ) → parse s ≡ refused n p → Refusal s n p

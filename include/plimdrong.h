@@ -67,8 +67,8 @@
 /* A name that is not there. */
 #define PLIMDRONG_NONE 255
 
-/* Parts of the word; a name's index is 0 to 3. */
-#define PLIMDRONG_KIND(word) ((unsigned)((word) >> 40))
+/* Parts of the word, which alone tell the answer (crates/answer/specs/Read.antt); a name's index is 0 to 3. */
+#define PLIMDRONG_KIND(word) ((unsigned)((word) >> 40 & 255))
 #define PLIMDRONG_NUMBER(word) ((unsigned)((word) >> 32 & 255))
 #define PLIMDRONG_PLACE(word) ((uint32_t)((word) & 0xffffffffu))
 #define PLIMDRONG_NAME(word, index) ((unsigned)((word) >> (24 - 8 * (index)) & 255))

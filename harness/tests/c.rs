@@ -1,7 +1,8 @@
 //! The header in C and C++, and the C program over the litmus files.
 
+use std::io::Write;
 use std::path::PathBuf;
-use std::process::Command;
+use std::process::{Command, Stdio};
 
 fn root() -> PathBuf {
     PathBuf::from(concat!(env!("CARGO_MANIFEST_DIR"), "/.."))
@@ -9,12 +10,17 @@ fn root() -> PathBuf {
 
 /// Compiles examples/c/judge.c as C or C++ and links the archive; the program.
 fn compiled(compiler: &str, language: &str, standard: &str) -> PathBuf {
-    let out = PathBuf::from(env!("CARGO_TARGET_TMPDIR")).join(format!("judge-{standard}"));
+    compiled_from("examples/c/judge.c", compiler, language, standard)
+}
+
+fn compiled_from(source: &str, compiler: &str, language: &str, standard: &str) -> PathBuf {
+    let stem = root().join(source).file_stem().unwrap().to_string_lossy().into_owned();
+    let out = PathBuf::from(env!("CARGO_TARGET_TMPDIR")).join(format!("{stem}-{standard}"));
     let done = Command::new(compiler)
         .args(["-Wall", "-Wextra", "-pedantic", "-Werror", &format!("-std={standard}"), "-x", language])
         .arg("-I")
         .arg(root().join("include"))
-        .arg(root().join("examples/c/judge.c"))
+        .arg(root().join(source))
         .args(["-x", "none"])
         .arg(root().join("target/native/libjudge_c.a"))
         .arg("-o")
@@ -69,6 +75,50 @@ fn c() {
 fn cpp() {
     for standard in ["c++11", "c++17", "c++20"] {
         runs_litmus(compiled("g++", "c++", standard));
+    }
+}
+
+/// The header's macros read a word as crates/answer/specs/Read.antt does, of which it is proved that they tell the answer: `kindIn`, `numberIn`,
+/// `placeIn`, `byteIn`. The words: each kind with each number and names at their ends, and 20,000 of 64 bits each.
+#[test]
+fn macros() {
+    let mut words = Vec::new();
+    for kind in 0..5u64 {
+        for number in (0..30).chain([254, 255]) {
+            for rest in [0, 1, 255, 256, 4096, 0xff00_ff00, 0x0102_0304, 0xffff_ffff, 0x01ff_ffff, 0xffff_ff01] {
+                words.push(kind << 40 | number << 32 | rest);
+            }
+        }
+    }
+    let mut random = 0x9e37_79b9_7f4a_7c15u64;
+    for _ in 0..20_000 {
+        random ^= random << 13;
+        random ^= random >> 7;
+        random ^= random << 17;
+        words.push(random);
+    }
+    let expected: String = words
+        .iter()
+        .map(|w| {
+            let byte = |i: u32| w / 2u64.pow(24 - 8 * i) % 256;
+            let (kind, number, place) = (w / 2u64.pow(40) % 256, w / 2u64.pow(32) % 256, w % 2u64.pow(32));
+            format!("{kind} {number} {place} {} {} {} {}\n", byte(0), byte(1), byte(2), byte(3))
+        })
+        .collect();
+    let input: String = words.iter().map(|w| format!("{w}\n")).collect();
+    for (compiler, language, standard) in [("gcc", "c", "c99"), ("g++", "c++", "c++11")] {
+        let mut program = Command::new(compiled_from("harness/tests/macros.c", compiler, language, standard))
+            .stdin(Stdio::piped())
+            .stdout(Stdio::piped())
+            .spawn()
+            .unwrap();
+        let mut stdin = program.stdin.take().unwrap();
+        let text = input.clone();
+        let writer = std::thread::spawn(move || stdin.write_all(text.as_bytes()).unwrap());
+        let out = program.wait_with_output().unwrap();
+        writer.join().unwrap();
+        assert!(out.status.success());
+        assert_eq!(String::from_utf8(out.stdout).unwrap(), expected, "{standard}");
     }
 }
 

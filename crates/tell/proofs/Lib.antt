@@ -1,2 +1,4 @@
 pub mod ToldLaws
 pub mod AgreementLaws
+pub mod PrintedLaws
+pub mod Demands

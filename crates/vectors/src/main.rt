@@ -1,25 +1,30 @@
 // The judge on any number of sheets from standard input, each after its length in two bytes; a line for each. For tests; stdin and stdout are
 // the litmus sheets (examples/litmus), made by tests/litmus/make.sh. An input that ends inside a sheet, a read or a write that fails is said on
 // standard error.
-ghost use Prim.Native.Nat.{_≤_};
+ghost use Prim.Native.Nat.{_+_, _<_, _≤_};
 ghost use lib.ListN.{length};
+ghost use Rattle.format.specs.Limits.{maxBytes};
 use libc::STDERR_FILENO;
 use libc::STDIN_FILENO;
 use libc::STDOUT_FILENO;
 
-// A length of more than 4,097 bytes is taken for 4,097: too long all the same.
+// A length of more than one byte over the longest sheet is taken for that: too long all the same.
 fn length_of(high: u8, low: u8) -> usize
-    ensures { λ r. ⌜ r ≤ 4097 ⌝ }
+    ensures { λ r. ⌜ r ≤ maxBytes + 1 ⌝ }
 {
     let n = (high as usize) * 256 + low as usize;
-    if n < 4097 { n } else { 4097 }
+    if n < tell::SHEET_BYTES {
+        n
+    } else {
+        tell::SHEET_BYTES
+    }
 }
 
 // The judge's answer on a sheet, as a line.
 fn told(s: &[u8]) {
-    let mut scratch = [0u8; 8192];
-    let mut order = [255u8; 32];
-    let mut out = [0u8; 256];
+    let mut scratch = [0u8; tell::SCRATCH_BYTES];
+    let mut order = [tell::UNUSED; tell::ORDER_BYTES];
+    let mut out = [0u8; tell::LINE_BYTES];
     let k = tell::tell(s, &mut scratch, &mut order, &mut out);
     if !io::write_all(STDOUT_FILENO, &out[..k]) {
         io::write_all(STDERR_FILENO, b"vectors: a line could not be written\n");
@@ -62,7 +67,7 @@ fn sheet_of(space: &mut [u8], n: usize) -> bool
 
 // One sheet: read and reported; false where the input ends.
 fn one(space: &mut [u8]) -> bool
-    requires { ⌜ 4097 ≤ length (now space) ⌝ }
+    requires { ⌜ maxBytes < length (now space) ⌝ }
 {
     let mut head = [0u8; 2];
     let got = io::read_full(STDIN_FILENO, &mut head);
@@ -75,7 +80,7 @@ fn one(space: &mut [u8]) -> bool
 }
 
 fn all(space: &mut [u8])
-    requires { ⌜ 4097 ≤ length (now space) ⌝ }
+    requires { ⌜ maxBytes < length (now space) ⌝ }
 {
     for _ in 0..1000000usize {
         if !one(space) {
@@ -85,6 +90,6 @@ fn all(space: &mut [u8])
 }
 
 fn main() {
-    let mut space = [0u8; 4097];
+    let mut space = [0u8; tell::SHEET_BYTES];
     all(&mut space);
 }

@@ -3,6 +3,10 @@
 use libc::STDERR_FILENO;
 use libc::STDIN_FILENO;
 use libc::STDOUT_FILENO;
+ghost use Prim.Native.Nat.{_<_};
+ghost use lib.ListN.{length};
+ghost use Rattle.format.specs.Limits.{maxBytes};
+ghost use Rattle.tell.specs.Demands.{Enough, Line};
 ghost use Rattle.verdict.specs.Reading.{Within};
 
 // What reading comes to: the sheet's length, or a read that failed.
@@ -11,8 +15,10 @@ enum Got {
     Failed,
 }
 
-// Reads until the buffer is full, the input ends or a read fails. A read that failed is no end: what was read before it is no sheet.
+// Reads until the buffer is full, the input ends or a read fails. A read that failed is no end: what was read before it is no sheet. A buffer that
+// is no longer than the longest sheet would take a longer one for it.
 fn read_sheet(buf: &mut [u8]) -> Got
+    requires { ⌜ maxBytes < length (now buf) ⌝ }
     ensures { λ r. ⌜ Within r (now (buf .exit)) ⌝ }
 {
     let mut n = 0;
@@ -31,8 +37,10 @@ fn read_sheet(buf: &mut [u8]) -> Got
     Got::Sheet(n)
 }
 
-// Writes the line out.
-fn print(line: &[u8]) {
+// Writes the sheet's line out, and nothing else: that it is the sheet's is asked.
+fn print(sheet: &[u8], line: &[u8])
+    requires { ⌜ Line (now sheet) (now line) ⌝ }
+{
     if !io::write_all(STDOUT_FILENO, line) {
         io::write_all(
             STDERR_FILENO,
@@ -41,13 +49,20 @@ fn print(line: &[u8]) {
     }
 }
 
-// Judges the sheet and prints its line.
+// Judges the sheet in buffers that are enough for every sheet, and prints its line.
+fn answer(sheet: &[u8], scratch: &mut [u8], order: &mut [u8], out: &mut [u8])
+    requires { ⌜ Enough (now scratch) (now order) (now out) ⌝ }
+{
+    let n = tell::tell(sheet, scratch, order, out);
+    print(sheet, &out[..n]);
+}
+
+// Lends the buffers.
 fn judge(sheet: &[u8]) {
-    let mut scratch = [0u8; 8192];
-    let mut order = [255u8; 32];
-    let mut out = [0u8; 256];
-    let k = tell::tell(sheet, &mut scratch, &mut order, &mut out);
-    print(&out[..k]);
+    let mut scratch = [0u8; tell::SCRATCH_BYTES];
+    let mut order = [tell::UNUSED; tell::ORDER_BYTES];
+    let mut out = [0u8; tell::LINE_BYTES];
+    answer(sheet, &mut scratch, &mut order, &mut out);
 }
 
 // Says that a read failed.
@@ -59,7 +74,9 @@ fn unread() {
 }
 
 // Reads the sheet and judges it; where a read fails nothing is judged.
-fn run(buf: &mut [u8]) {
+fn run(buf: &mut [u8])
+    requires { ⌜ maxBytes < length (now buf) ⌝ }
+{
     let got = read_sheet(buf);
     match got {
         Got::Sheet(n) => judge(&buf[..n]),
@@ -68,7 +85,6 @@ fn run(buf: &mut [u8]) {
 }
 
 fn main() {
-    // one byte more than the longest sheet, so that a longer one is seen
-    let mut sheet = [0u8; 4097];
+    let mut sheet = [0u8; tell::SHEET_BYTES];
     run(&mut sheet);
 }

@@ -4,12 +4,13 @@ use native.Mathlib.Omega.{arith}
 use mathlib.Core.Path.{_≡_, refl, sym, ap, _∙_}
 use mathlib.Core.Logic.{⊎-elim}
 use lib.ListN.{length, length-set, getD, set}
+use Rattle.format.specs.Limits.{maxBytes}
 use borrow.Author.Needs.{needs}
 use Rattle.vectors.proofs.all.Statement.{statement}
 use Rattle.vectors.proofs.all.Tie as tie
 
 abbrev Inv-loop : tie.InvT-loop
-Inv-loop space₀ counter₀ space counter = (4097 ≤ length space) × (length space ≡ length space₀) × (counter ≤ 1000000)
+Inv-loop space₀ counter₀ space counter = (maxBytes < length space) × (length space ≡ length space₀) × (counter ≤ 1000000)
 
 abbrev μ-loop : tie.MeasureT-loop
 μ-loop space₀ counter₀ space counter = 1000000 - counter

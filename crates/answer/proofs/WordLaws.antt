@@ -1,5 +1,6 @@
 -- The laws of specs/Word.antt: the parts of a word are the answer's.
 --     four-below        four names below 256 make less than 2^32
+--     fits-more         an answer with no name 255 fits
 --     packed-below      a word is below 2^43
 --     packed-kind, packed-number, packed-rest    the word's parts are the answer's
 -- Assumes nothing.
@@ -41,6 +42,12 @@ four-more f h =
 
 pub four-same : {a b c d p q r s : Name} → a ≡ p → b ≡ q → c ≡ r → d ≡ s → four a b c d ≡ four p q r s
 four-same x y z w = cc
+
+-- what fits without the byte for none fits
+pub fits-more : (x : Answer) → Fits 255 x → Fits 256 x
+fits-more (Refused n p) h = h
+fits-more (Broken n names) h = (h .0, four-more (namesOf names) (h .1))
+fits-more (Consistent s) h = four-more (pairOf s) h
 
 -- ---- the word
 

@@ -15,9 +15,8 @@ use Rattle.sheet.proofs.WellSheetLaws.{exactly}
 use Rattle.orders.specs.Order.{In}
 use Rattle.answer.specs.declared.Answer.{Answer}
 use Rattle.answer.specs.declared.Answer.the-variants.{Refused, Broken, Consistent}
-use Rattle.answer.specs.NameOf.{namesOf, pairOf}
 use Rattle.answer.specs.Fit.{Fits}
-use Rattle.answer.proofs.WordLaws.{four-more}
+use Rattle.answer.proofs.WordLaws.{fits-more}
 use Rattle.report.specs.Line.{lineOf}
 use Rattle.report.specs.Lined.{Lined}
 use Rattle.report.proofs.LineLaws.{line-some}
@@ -60,16 +59,11 @@ small (e ∷ o) m pos below (suc i) = small o m pos (λ d h. below d (inr h)) i
 
 -- ---- the line
 
-more : (a : Answer) → Fits 255 a → Fits 256 a
-more (Refused n p) h = h
-more (Broken n names) h = (h .0, four-more (namesOf names) (h .1))
-more (Consistent t) h = four-more (pairOf t) h
-
 module _ (s out out′ : List ℕ) (r : ℕ) (a : Answer) (o : List ℕ) (verdict : Verdict s a o) (fits : Fits 255 a) (few : length o ≤ maxEvents)
     (below : (e : ℕ) → In e o → e < unused) (room : maxLine ≤ length out) where
   pub line-printed : Lined a o out r out′ → Printed s out r out′
   line-printed l =
-      let p = lined-fits l (more a fits) (small o 256 (omega arith) (λ e h. let b = below e h in omega arith)) (omega arith) in
+      let p = lined-fits l (fits-more a fits) (small o 256 (omega arith) (λ e h. let b = below e h in omega arith)) (omega arith) in
       record { line = record { answer = a; order = o; verdict = verdict; is = p .written }; some = omega (arith, line-some a o); within = l .within; rest = p .rest }
 
 -- ---- the sheet

@@ -16,7 +16,7 @@ use Rattle.sheet.specs.WellSheet.{WellSheet}
 use Rattle.sheet.proofs.DescribedLaws.{rowless-refused}
 use Rattle.sheet.proofs.PromiseLaws.{promise}
 use Rattle.sheet.proofs.WellSheetLaws.{exactly}
-use Rattle.sheet.proofs.RefusalLaws.{refusal}
+use Rattle.sheet.proofs.RefusalLaws.{refusal, refusal-number}
 use Rattle.sets.specs.Table.{cleared}
 use Rattle.orders.specs.Order.{Meets}
 use Rattle.orders.specs.First.{FirstOf}
@@ -30,7 +30,7 @@ use Rattle.model.specs.Rules.{faulty, fault}
 use Rattle.model.specs.Order.{problem}
 use Rattle.model.specs.Unsettled.{unsettledPair}
 use Rattle.model.specs.Judged.{needed, Breaks, settledOf, JudgedConsistent, Judged}
-use Rattle.model.specs.Demands.{IsRefused, Result, Refuses, by-sheet, short-scratch, short-order, Demand1, Allowed, Meant, Demand2, Demand3, Agreement, SaysTheVerdict, OneVerdict, Rowed, OneRowEach, FitsWord, SameWord, InitsFirst, FirstNamed, LowestPair, Reduction}
+use Rattle.model.specs.Demands.{IsRefused, Result, Refuses, by-sheet, short-scratch, short-order, Demand1, Allowed, Meant, Demand2, Demand3, Agreement, SaysTheVerdict, OneVerdict, NeverShort, Rowed, OneRowEach, FitsWord, SameWord, InitsFirst, FirstNamed, LowestPair, Reduction}
 use Rattle.model.proofs.Sound.{Sound, sound}
 use Rattle.model.proofs.UnsettledLaws.{none-orderly, orderly-none}
 use Rattle.model.proofs.Serial.{explains}
@@ -183,6 +183,9 @@ says-the-verdict s scratch order answer scratch′ order′ enough fit = judged-
 
 pub one-verdict : OneVerdict
 one-verdict = verdict-unique
+
+pub never-short : NeverShort
+never-short s n p o v = (refusal s n p (v .says), refusal-number s n p (v .says) .1)
 
 pub one-row-each : OneRowEach
 one-row-each s scratch order answer scratch′ order′ h j =

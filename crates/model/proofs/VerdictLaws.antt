@@ -1,6 +1,7 @@
 -- The laws of specs/Verdict.antt: lent enough, the judge says of a sheet what is to be said of it. Assumes nothing.
 --     few-events, few-scratch     what a well-formed sheet needs is at most what is enough for every sheet
 --     judged-verdict              the answer and the order of a Judged result, where both buffers are enough
+--     verdict-few                 the order that is told has at most as many entries as a sheet can have events
 --     verdict-unique              of a sheet one thing is to be said
 use mathlib.Core.Path.{_≡_, refl, sym, ap, _∙_, subst}
 use mathlib.Core.Logic.{inl, inr}
@@ -92,6 +93,15 @@ module _ (s scratch order : List ℕ) (enough : maxScratch ≤ length scratch) (
             sym (take-append-drop (length (x .events)) order′) ∙ ap (λ (k : List ℕ). o ++ k) (j .order-rest) ∙ ap (λ (k : ℕ). o ++ drop k order) l;
         events = λ e h. let b = m .events e h in omega arith;
       }
+
+-- the order that is told has as many entries as a sheet can have events, at most
+pub verdict-few : (s : List ℕ) (a : Answer) (o : List ℕ) → Verdict s a o → length o ≤ maxEvents
+verdict-few s (Refused n p) o v = omega (arith, ap length (v .no-order))
+verdict-few s (Broken n names) o v = omega (arith, ap length (v .no-order))
+verdict-few s (Consistent t) o v =
+    let x = v .execution in
+    let w = v .sheet .well-formed in
+    omega (arith, few-events x w, meets-length x (v .hb) (sound x w) (v .tests) o (v .first .is))
 
 -- ---- of a sheet one thing is said
 

@@ -3,7 +3,7 @@
 --     Demand2        what consistent, broken and orderly mean of a well-formed sheet, and that it is not refused
 --     Demand3        an orderly execution replays on a plain memory
 --     Agreement      two answers agree, buffers too                            SaysTheVerdict    lent enough, the answer is the sheet's own
---     OneVerdict     of a sheet one thing is to be said
+--     OneVerdict     of a sheet one thing is to be said                        NeverShort        and that is never 12 or 13
 --     OneRowEach     what is judged has one row for each read byte
 --     FitsWord       every answer fits the exported word                       SameWord          one word, one answer
 --     InitsFirst     the order that is reported begins with the inits          FirstNamed, LowestPair     the rule, the pair that is named is the first
@@ -125,6 +125,10 @@ SaysTheVerdict = (s scratch order : List ℕ) (answer : Answer) (scratch′ orde
 
 abbrev pub OneVerdict : Type 0
 OneVerdict = (s : List ℕ) (a b : Answer) (o q : List ℕ) → Verdict s a o → Verdict s b q → (a ≡ b) × (o ≡ q)
+
+-- a verdict that refuses is by the sheet's own rows of the table: 1 to 11
+abbrev pub NeverShort : Type 0
+NeverShort = (s : List ℕ) (n p : ℕ) (o : List ℕ) → Verdict s (Refused n p) o → Refusal s n p × (n ≤ 11)
 
 -- Where the answer is not a refusal, the sheet is well-formed, and each byte of each read has exactly one row.
 pub record Rowed (s : List ℕ) : Type 0 where

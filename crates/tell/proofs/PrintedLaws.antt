@@ -10,11 +10,8 @@ use native.Mathlib.Omega.{arith}
 use borrow.Author.Tests.{ne-eqb}
 use lib.ListN.{length, getD, drop, replicate}
 use Rattle.format.specs.Limits.{maxEvents}
-use Rattle.sheet.proofs.PromiseLaws.{promise}
-use Rattle.sheet.proofs.WellSheetLaws.{exactly}
 use Rattle.orders.specs.Order.{In}
 use Rattle.answer.specs.declared.Answer.{Answer}
-use Rattle.answer.specs.declared.Answer.the-variants.{Refused, Broken, Consistent}
 use Rattle.answer.specs.Fit.{Fits}
 use Rattle.answer.proofs.WordLaws.{fits-more}
 use Rattle.report.specs.Line.{lineOf}
@@ -22,9 +19,7 @@ use Rattle.report.specs.Lined.{Lined}
 use Rattle.report.proofs.LineLaws.{line-some}
 use Rattle.report.proofs.LinedLaws.{lined-fits}
 use Rattle.model.specs.Verdict.{Verdict}
-use Rattle.model.proofs.OrderLaws.{meets-length}
-use Rattle.model.proofs.Sound.{sound}
-use Rattle.model.proofs.VerdictLaws.{few-events, judged-verdict, verdict-unique}
+use Rattle.model.proofs.VerdictLaws.{judged-verdict, verdict-few, verdict-unique}
 use Rattle.model.proofs.FitLaws.{judged-fits}
 use Rattle.tell.specs.Limits.{maxLine}
 use Rattle.tell.specs.Told.{unused, placed, Told}
@@ -59,31 +54,22 @@ small (e ∷ o) m pos below (suc i) = small o m pos (λ d h. below d (inr h)) i
 
 -- ---- the line
 
-module _ (s out out′ : List ℕ) (r : ℕ) (a : Answer) (o : List ℕ) (verdict : Verdict s a o) (fits : Fits 255 a) (few : length o ≤ maxEvents)
-    (below : (e : ℕ) → In e o → e < unused) (room : maxLine ≤ length out) where
-  pub line-printed : Lined a o out r out′ → Printed s out r out′
+module _ (s order order′ out out′ : List ℕ) (r : ℕ) (a : Answer) (o : List ℕ) (verdict : Verdict s a o) (fits : Fits 255 a) (few : length o ≤ maxEvents)
+    (below : (e : ℕ) → In e o → e < unused) (room : maxLine ≤ length out) (front : order′ ≡ o ++ drop (length o) order) where
+  pub line-printed : Lined a o out r out′ → Printed s order out r order′ out′
   line-printed l =
       let p = lined-fits l (fits-more a fits) (small o 256 (omega arith) (λ e h. let b = below e h in omega arith)) (omega arith) in
-      record { line = record { answer = a; order = o; verdict = verdict; is = p .written }; some = omega (arith, line-some a o); within = l .within; rest = p .rest }
+      record { line = record { answer = a; order = o; verdict = verdict; is = p .written }; some = omega (arith, line-some a o); within = l .within; rest = p .rest; front = front }
 
 -- ---- the sheet
 
--- an order of more events than a sheet has is never told
-told-few : (s : List ℕ) (a : Answer) (o : List ℕ) → Verdict s a o → length o ≤ maxEvents
-told-few s (Refused n p) o v = omega (arith, ap length (v .no-order))
-told-few s (Broken n names) o v = omega (arith, ap length (v .no-order))
-told-few s (Consistent t) o v =
-    let x = v .execution in
-    let w = promise s x (exactly s x .1 (v .sheet)) in
-    omega (arith, few-events x w, meets-length x (v .hb) (sound x w) (v .tests) o (v .first .is))
-
 pub told-printed : (s scratch order out : List ℕ) (r : ℕ) (scratch′ order′ out′ : List ℕ) → Enough scratch order out → Told s scratch order out r scratch′ order′ out′
-    → Printed s out r out′
+    → Printed s order out r order′ out′
 told-printed s scratch order out r scratch′ order′ out′ e t =
     let p = judged-verdict s scratch order (e .scratch-holds) (e .order-holds) scratch′ order′ (t .answer) (t .judged) in
     let below : (d : ℕ) → In d (p .told) → d < unused = λ d h. let b = p .events d h in omega arith in
     let q = placed-order (p .told) order order′ (e .order-unused) (p .front) below in
-    line-printed s out out′ r (t .answer) (p .told) (p .verdict) (judged-fits s scratch order (t .answer) scratch′ order′ (t .judged)) (told-few s (t .answer) (p .told) (p .verdict)) below (e .line-holds) (subst (λ (z : List ℕ). Lined (t .answer) z out r out′) q (t .lined))
+    line-printed s order order′ out out′ r (t .answer) (p .told) (p .verdict) (judged-fits s scratch order (t .answer) scratch′ order′ (t .judged)) (verdict-few s (t .answer) (p .told) (p .verdict)) below (e .line-holds) (p .front) (subst (λ (z : List ℕ). Lined (t .answer) z out r out′) q (t .lined))
 
 pub line-unique : (s k l : List ℕ) → Line s k → Line s l → k ≡ l
 line-unique s k l x y =

@@ -2,12 +2,12 @@
 -- back"). Proved in proofs/Demands.antt.
 --     Enough scratch order out     buffers that are enough for every sheet, the order buffer full of `unused`
 --     Line s l                     l is the line of the sheet s: no buffer is in sight
---     Printed s out r out′         the line of s stands in the first r bytes of out′, and the rest is as it was
+--     Printed                      the line of s stands in front of the line's buffer, its order in front of the order buffer; the rest is as it was
 --     PrintsTheOrder               lent enough, `tell` writes the sheet's line, whole
 --     OneLine                      a sheet has one line
 -- Assumes nothing.
 use mathlib.Core.Path.{_≡_}
-use mathlib.Core.List.{List}
+use mathlib.Core.List.{List, _++_}
 use Prim.Native.Nat.{ℕ, _≤_, _<_}
 use lib.ListN.{length, take, drop, replicate}
 use Rattle.format.specs.Limits.{maxEvents}
@@ -30,14 +30,16 @@ pub record Line (s l : List ℕ) : Type 0 where
   pub verdict : Verdict s answer order
   pub is : l ≡ lineOf answer order
 
-pub record Printed (s out : List ℕ) (r : ℕ) (out′ : List ℕ) : Type 0 where
+pub record Printed (s order out : List ℕ) (r : ℕ) (order′ out′ : List ℕ) : Type 0 where
   pub line : Line s (take r out′)
   pub some : 0 < r
   pub within : r ≤ length out
   pub rest : drop r out′ ≡ drop r out
+  -- the events that the line tells are those in front of the order buffer
+  pub front : order′ ≡ line .order ++ drop (length (line .order)) order
 
 abbrev pub PrintsTheOrder : Type 0
-PrintsTheOrder = (s scratch order out : List ℕ) (r : ℕ) (scratch′ order′ out′ : List ℕ) → Enough scratch order out → Told s scratch order out r scratch′ order′ out′ → Printed s out r out′
+PrintsTheOrder = (s scratch order out : List ℕ) (r : ℕ) (scratch′ order′ out′ : List ℕ) → Enough scratch order out → Told s scratch order out r scratch′ order′ out′ → Printed s order out r order′ out′
 
 -- 01: "That any two conforming answers agree is itself proved"
 abbrev pub OneLine : Type 0

@@ -84,7 +84,7 @@ module _ {A B : Type 0} (R : A → A → Type 0) (S : B → B → Type 0) where
       (λ u v i j. inl (subst (λ (c : A). R c (v .0)) (sym (row-elim a m u i .0)) (p .0 (v .0) (across-left l m v j))))
 
 -- a is entry number i, it passes, and none before it does
-pub record First {A : Type 0} (f : A → Bool) (l : List A) (d a : A) : Type 0 where
+pub record FirstIn {A : Type 0} (f : A → Bool) (l : List A) (d a : A) : Type 0 where
   pub number : ℕ
   pub there : number < length l
   pub is : getD l number d ≡ a
@@ -92,12 +92,12 @@ pub record First {A : Type 0} (f : A → Bool) (l : List A) (d a : A) : Type 0 w
   pub none-before : (j : ℕ) → j < number → T (f (getD l j d)) → ⊥
 
 module _ {A : Type 0} (d : A) (f : A → Bool) where
-  pub find-first : (l : List A) (a : A) → find f l ≡ some a → First f l d a
+  pub find-first : (l : List A) (a : A) → find f l ≡ some a → FirstIn f l d a
   unfolding find keep
   find-first [] a e = let z : _≡_ {A = ℕ} 0 1 = cc in absurd (omega arith)
   find-first (b ∷ l) a e = on (f b) refl e (find-first l a)
     where
-      on : (x : Bool) → f b ≡ x → keep x b (find f l) ≡ some a → (find f l ≡ some a → First f l d a) → First f (b ∷ l) d a
+      on : (x : Bool) → f b ≡ x → keep x b (find f l) ≡ some a → (find f l ≡ some a → FirstIn f l d a) → FirstIn f (b ∷ l) d a
       on true q e ih =
           let same : b ≡ a = cc in
           record { number = 0; there = omega arith; is = same; passes = subst (λ (c : A). T (f c)) same (true-T _ q); none-before = λ j h t. absurd (omega arith) }

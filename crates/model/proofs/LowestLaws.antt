@@ -29,7 +29,7 @@ use Rattle.model.specs.Happens.{Tests}
 use Rattle.model.specs.Rules.{breaks21, breaks22, breaks23, breaks24, breaks25, untornFrom, Fault, faulty, fault}
 use Rattle.model.specs.Order.{problem}
 use Rattle.model.specs.Judged.{Breaks}
-use Rattle.model.specs.Lowest.{Lowest, at-21, at-22, at-23, at-24, at-25, at-26, First}
+use Rattle.model.specs.Lowest.{Lowest, at-21, at-22, at-23, at-24, at-25, at-26, FirstBroken}
 use Rattle.model.proofs.EventsLaws.{writes-covers, covering-inside, number-mem}
 use Rattle.model.proofs.Sound.{Sound, sound}
 use Rattle.model.proofs.HappensLaws.{reader-inside, writer-inside, happens-inside}
@@ -195,17 +195,17 @@ module _ (x : Execution) (hb : ℕ → ℕ → Bool) (wf : WellFormed x) (so : S
 
   -- ---- the fault that is answered
 
-  named : (n : ℕ) (names : Names) (f : Fault) → Lowest x hb n names → Past n → faulty n names ≡ f → First x hb (f .number) (f .names)
-  named n names f l p e = subst (λ (g : Fault). First x hb (g .number) (g .names)) e (record { lowest = l; none-before = past n p })
+  named : (n : ℕ) (names : Names) (f : Fault) → Lowest x hb n names → Past n → faulty n names ≡ f → FirstBroken x hb (f .number) (f .names)
+  named n names f l p e = subst (λ (g : Fault). FirstBroken x hb (g .number) (g .names)) e (record { lowest = l; none-before = past n p })
 
   same-fault : (f g : Fault) → fault x hb ≡ some f → fault x hb ≡ some g → f ≡ g
   same-fault f g p q = let e : some f ≡ some g = sym p ∙ q in cc
 
-  pub fault-first : (f : Fault) → fault x hb ≡ some f → First x hb (f .number) (f .names)
+  pub fault-first : (f : Fault) → fault x hb ≡ some f → FirstBroken x hb (f .number) (f .names)
   fault-first f e = go21 (find (breaks21 x) (x .rows)) refl
     where
       go25 : find (breaks21 x) (x .rows) ≡ none → find (breaks22 hb) (numbers x) ≡ none → find (breaks23 hb) (x .rows) ≡ none
-          → find (test24 x hb) (across (x .rows) (numbers x)) ≡ none → (o : Option (ℕ × (ℕ × ℕ))) → find (test25 x) (triples x) ≡ o → First x hb (f .number) (f .names)
+          → find (test24 x hb) (across (x .rows) (numbers x)) ≡ none → (o : Option (ℕ × (ℕ × ℕ))) → find (test25 x) (triples x) ≡ o → FirstBroken x hb (f .number) (f .names)
       go25 a b c d (some t) q =
           named 25 (Torn (t .0) (t .1 .0) (t .1 .1)) f (lowest-25 (t .0) (t .1 .0) (t .1 .1) q)
           (record { p21 = λ h. a; p22 = λ h. b; p23 = λ h. c; p24 = λ h. d; p25 = λ h. absurd (omega arith); p26 = omega arith })
@@ -215,35 +215,35 @@ module _ (x : Execution) (hb : ℕ → ℕ → Bool) (wf : WellFormed x) (so : S
           let z : some f ≡ none = sym e ∙ n in absurd (let y : _≡_ {A = ℕ} 0 1 = cc in omega arith)
 
       go24 : find (breaks21 x) (x .rows) ≡ none → find (breaks22 hb) (numbers x) ≡ none → find (breaks23 hb) (x .rows) ≡ none
-          → (o : Option (Row × ℕ)) → find (test24 x hb) (across (x .rows) (numbers x)) ≡ o → First x hb (f .number) (f .names)
+          → (o : Option (Row × ℕ)) → find (test24 x hb) (across (x .rows) (numbers x)) ≡ o → FirstBroken x hb (f .number) (f .names)
       go24 a b c (some p) q =
           named 24 (Between (p .0 .reader) (p .0 .writer) (p .1) (p .0 .address)) f (lowest-24 (p .0) (p .1) q)
           (record { p21 = λ h. a; p22 = λ h. b; p23 = λ h. c; p24 = λ h. absurd (omega arith); p25 = λ h. absurd (omega arith); p26 = omega arith })
           (same-fault _ f (fault-24 x hb (p .0) (p .1) a b c q) e)
       go24 a b c none q = go25 a b c q (find (test25 x) (triples x)) refl
 
-      go23 : find (breaks21 x) (x .rows) ≡ none → find (breaks22 hb) (numbers x) ≡ none → (o : Option Row) → find (breaks23 hb) (x .rows) ≡ o → First x hb (f .number) (f .names)
+      go23 : find (breaks21 x) (x .rows) ≡ none → find (breaks22 hb) (numbers x) ≡ none → (o : Option Row) → find (breaks23 hb) (x .rows) ≡ o → FirstBroken x hb (f .number) (f .names)
       go23 a b (some r) q =
           named 23 (OfRow (r .reader) (r .writer) (r .address)) f (by-row (breaks23 hb) 23 at-23 r q)
           (record { p21 = λ h. a; p22 = λ h. b; p23 = λ h. absurd (omega arith); p24 = λ h. absurd (omega arith); p25 = λ h. absurd (omega arith); p26 = omega arith })
           (same-fault _ f (fault-23 x hb r a b q) e)
       go23 a b none q = go24 a b q (find (test24 x hb) (across (x .rows) (numbers x))) refl
 
-      go22 : find (breaks21 x) (x .rows) ≡ none → (o : Option ℕ) → find (breaks22 hb) (numbers x) ≡ o → First x hb (f .number) (f .names)
+      go22 : find (breaks21 x) (x .rows) ≡ none → (o : Option ℕ) → find (breaks22 hb) (numbers x) ≡ o → FirstBroken x hb (f .number) (f .names)
       go22 a (some d) q =
           named 22 (OfEvent d) f (lowest-22 d q)
           (record { p21 = λ h. a; p22 = λ h. absurd (omega arith); p23 = λ h. absurd (omega arith); p24 = λ h. absurd (omega arith); p25 = λ h. absurd (omega arith); p26 = omega arith })
           (same-fault _ f (fault-22 x hb d a q) e)
       go22 a none q = go23 a q (find (breaks23 hb) (x .rows)) refl
 
-      go21 : (o : Option Row) → find (breaks21 x) (x .rows) ≡ o → First x hb (f .number) (f .names)
+      go21 : (o : Option Row) → find (breaks21 x) (x .rows) ≡ o → FirstBroken x hb (f .number) (f .names)
       go21 (some r) q =
           named 21 (OfRow (r .reader) (r .writer) (r .address)) f (by-row (breaks21 x) 21 at-21 r q)
           (record { p21 = λ h. absurd (omega arith); p22 = λ h. absurd (omega arith); p23 = λ h. absurd (omega arith); p24 = λ h. absurd (omega arith); p25 = λ h. absurd (omega arith); p26 = omega arith })
           (same-fault _ f (fault-21 x hb r q) e)
       go21 none q = go22 q (find (breaks22 hb) (numbers x)) refl
 
-  pub breaks-first : (f : Fault) → Breaks x hb f → First x hb (f .number) (f .names)
+  pub breaks-first : (f : Fault) → Breaks x hb f → FirstBroken x hb (f .number) (f .names)
   breaks-first f (inl e) = fault-first f e
   breaks-first f (inr u) =
       let c = clean x hb (u .unbroken) in

@@ -43,7 +43,7 @@ use Rattle.model.specs.Unsettled.{unsettled, Orderly}
 use Rattle.model.specs.Memory.{Explains}
 use Rattle.model.specs.Judged.{needed, Breaks, Judged}
 use Rattle.model.specs.Verdict.{maxScratch, Verdict, Reported}
-use Rattle.model.specs.Lowest.{First}
+use Rattle.model.specs.Lowest.{FirstBroken}
 use Rattle.model.specs.Sentences.{Reduced}
 use Rattle.model.specs.Litmus.{Entry}
 
@@ -162,7 +162,7 @@ InitsFirst = (s scratch order : List ℕ) (t : Settled) (scratch′ order′ : L
 -- (R, W, V)."
 abbrev pub FirstNamed : Type 0
 FirstNamed = (s scratch order : List ℕ) (n : ℕ) (names : Names) (scratch′ order′ : List ℕ) (x : Execution) (hb : ℕ → ℕ → Bool) → WellSheet s x
-    → Tests x hb → Judged s scratch order (Broken n names) scratch′ order′ → First x hb n names
+    → Tests x hb → Judged s scratch order (Broken n names) scratch′ order′ → FirstBroken x hb n names
 
 -- 01: "Otherwise the lowest pair is named."
 abbrev pub LowestPair : Type 0

@@ -1,8 +1,8 @@
 -- Whom a broken rule names, said of the names that are given (01, "Rules, in the order they are tested": "Each is tested over the whole sheet
 -- before the next. Rows are taken in order; then the lowest V. For 22 the lowest event, for 25 the lowest (R, W, V)."). Proved of every fault that
 -- is answered: proofs/LowestLaws.antt.
---     Lowest x hb n names     rule n is broken where the names say, and nowhere before that
---     First x hb n names      and no rule with a lower number is broken anywhere
+--     Lowest x hb n names          rule n is broken where the names say, and nowhere before that
+--     FirstBroken x hb n names     and no rule with a lower number is broken anywhere
 -- `Lex` (orders/specs/First.antt) compares number by number.
 -- Assumes nothing.
 use mathlib.Core.Bool.{Bool}
@@ -36,6 +36,6 @@ pub data Lowest (x : Execution) (hb : ℕ → ℕ → Bool) : ℕ → Names → 
       → Lowest x hb 25 (Torn r w v)
   at-26 : ((o : List ℕ) → Meets (problem x hb) o → ⊥) → Lowest x hb 26 Nobody
 
-pub record First (x : Execution) (hb : ℕ → ℕ → Bool) (n : ℕ) (names : Names) : Type 0 where
+pub record FirstBroken (x : Execution) (hb : ℕ → ℕ → Bool) (n : ℕ) (names : Names) : Type 0 where
   pub lowest : Lowest x hb n names
   pub none-before : (m : ℕ) (others : Names) → Lowest x hb m others → n ≤ m

@@ -1,5 +1,5 @@
 -- The promises of specs/Demands.antt hold. Assumes nothing.
-use Rattle.report.specs.Demands.{Agree, Enough, Readable}
+use Rattle.report.specs.Demands.{Agree, LongEnough, Readable}
 use Rattle.report.proofs.DecimalLaws.{decimal-unique}
 use Rattle.report.proofs.LineLaws.{line-bound}
 use Rattle.report.proofs.LinedLaws.{lined-unique}
@@ -7,7 +7,7 @@ use Rattle.report.proofs.LinedLaws.{lined-unique}
 pub agree : Agree
 agree x order entry r s exit exit′ a b = lined-unique a b
 
-pub enough : Enough
+pub enough : LongEnough
 enough = line-bound
 
 pub readable : Readable

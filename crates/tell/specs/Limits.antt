@@ -4,6 +4,6 @@
 use Prim.Native.Nat.{ℕ, _+_, _*_}
 use Rattle.format.specs.Limits.{maxEvents}
 
--- ours: `Enough` of report/specs/Demands.antt, for the most events
+-- ours: `LongEnough` of report/specs/Demands.antt, for the most events
 abbrev pub maxLine : ℕ
 maxLine = 34 + 4 * maxEvents

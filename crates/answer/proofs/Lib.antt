@@ -1,3 +1,4 @@
 pub mod WordLaws
 pub mod ReadLaws
+pub mod Examples
 pub mod Demands

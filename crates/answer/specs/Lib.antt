@@ -4,4 +4,5 @@ pub mod NameOf
 pub mod Word
 pub mod Fit
 pub mod Read
+pub mod Examples
 pub mod Demands

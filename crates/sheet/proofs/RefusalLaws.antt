@@ -260,7 +260,7 @@ module _ (s : List ℕ) (n p : ℕ) (short : length s ≤ maxBytes) where
           again (omega arith) (inside s q st t) (still t) (known-after s k st t w) (ap (λ (y : State). y .got) (sym (taken-more s f q st h)) ∙ g) (sym (at-field s f q st h t) ∙ e)
       turn true r (suc m) t =
           let h = ltb-true q (length s) r in
-          given (Refusal.at-field k short h (record { none-before = clean; is = t; blames = blamed s k st (w .last) (w .some-last) m t }))
+          given (Refusal.at-field k short h (record { none-before = clean; is = t; blames = blamed s k (w .last) (w .some-last) m t }))
           (ap (refused (suc m)) (sym (place-is (suc m) q)) ∙ sym (at-fault s f q st (suc m) h t (λ d. omega arith)) ∙ e)
 
   fields-refused : (f k : ℕ) → Goes f k
@@ -281,13 +281,17 @@ refusal-number s n p e = go (refusal s n p e)
     field : {k m : ℕ} → Blames s k m → (1 ≤ m) × (m ≤ 11)
     field (Blames.cut h) = (omega arith, omega arith)
     field (Blames.tag h) = (omega arith, omega arith)
-    field (Blames.long h j) = (omega arith, omega arith)
-    field (Blames.of-head h) = (omega arith, omega arith)
-    field (Blames.of-event h) = (omega arith, omega arith)
-    field (Blames.of-row h) = (omega arith, omega arith)
-    field (Blames.of-pair h) = (omega arith, omega arith)
-    field (Blames.one-event-more h) = (omega arith, omega arith)
-    field (Blames.one-pair-more h) = (omega arith, omega arith)
+    field (Blames.head-long h j) = (omega arith, omega arith)
+    field (Blames.event-long h j) = (omega arith, omega arith)
+    field (Blames.row-long h j) = (omega arith, omega arith)
+    field (Blames.pair-long h j) = (omega arith, omega arith)
+    field (Blames.of-head h j) = (omega arith, omega arith)
+    field (Blames.of-event h j) = (omega arith, omega arith)
+    field (Blames.of-row h j) = (omega arith, omega arith)
+    field (Blames.of-pair h j) = (omega arith, omega arith)
+    field (Blames.one-init-more h i j) = (omega arith, omega arith)
+    field (Blames.one-other-more h i j) = (omega arith, omega arith)
+    field (Blames.one-pair-more h j) = (omega arith, omega arith)
 
     go : {m o : ℕ} → Refusal s m o → (1 ≤ m) × (m ≤ 11)
     go (Refusal.too-long h) = (omega arith, omega arith)

@@ -3,19 +3,22 @@
 --     faultNo s k         the fault of field number k, behind the fields before it; 0 for none
 --     Faultless s         no field of s is at fault
 --     WrongTag s k        field number k has a tag that is not allowed there
---     Blames s k n        field number k can be refused by number n: a row of the table, said without the reader's tests
+--     Blames s k n        field number k is to be refused by number n: its row of the table, with what is wrong
 --     Refusal s n p       number n at place p, by a row of the table, and nothing that is tested before it is at fault
 --     Tabled              every refusal is by a row of the table
 -- Assumes nothing.
 use mathlib.Core.Path.{_≡_}
+use mathlib.Core.Bool.{false}
 use mathlib.Core.List.{List}
-use Prim.Native.Nat.{ℕ, zero, suc, _<_, _≤_}
+use Prim.Native.Nat.{ℕ, zero, suc, _+_, _<_, _≤_}
 use lib.Dec.{T}
 use lib.ListN.{length}
-use Rattle.format.specs.Limits.{maxBytes}
+use Rattle.format.specs.Limits.{maxBytes, maxInits, maxOthers, maxPairs}
 use Rattle.format.specs.Event.{readsSome}
-use Rattle.format.specs.Execution.{event}
-use Rattle.format.specs.Field.{tagAt, nextAt, fieldPlace}
+use Rattle.format.specs.Execution.{Execution, event, inits, others}
+use Rattle.format.specs.Field.{tagAt, nextAt, valueAt, fieldPlace}
+use Rattle.format.specs.Layout.{headBytes, eventBytes, rowBytes, pairBytes, headOf, agentOf, shapeOf, rowOf, pairOf}
+use Rattle.sheet.specs.Content.{headFits, eventFits, dataBytes, rowFits, pairFits}
 use Rattle.sheet.specs.Parse.{refused, State, blank, faultAt, after, parse}
 use Rattle.sheet.specs.Described.{described, RowlessAt}
 
@@ -41,20 +44,31 @@ pub data WrongTag (s : List ℕ) : ℕ → Type 0 where
   second-head : (k : ℕ) → tagNo s (suc k) ≡ 1 → WrongTag s (suc k)
   no-head : (tagNo s 0 ≡ 1 → ⊥) → WrongTag s 0
 
+-- the value of field number k, and what the fields before it describe
+abbrev pub valueNo : List ℕ → ℕ → List ℕ
+valueNo s k = valueAt s (fieldPlace s k)
+
+abbrev pub soFar : List ℕ → ℕ → Execution
+soFar s k = stateNo s k .got
+
 pub data Blames (s : List ℕ) (k : ℕ) : ℕ → Type 0 where
   -- "2 field cut short": fewer than three bytes left, or a value past the end
   cut : length s < nextAt s (fieldPlace s k) → Blames s k 2
   tag : WrongTag s k → Blames s k 3
-  -- "4 length wrong for the field", of any tag
-  long : 1 ≤ tagNo s k → tagNo s k ≤ 4 → Blames s k 4
-  -- "5, 6, 7, 8 content of head, event, row, pair"
-  of-head : tagNo s k ≡ 1 → Blames s k 5
-  of-event : tagNo s k ≡ 2 → Blames s k 6
-  of-row : tagNo s k ≡ 3 → Blames s k 7
-  of-pair : tagNo s k ≡ 4 → Blames s k 8
+  -- "4 length wrong for the field"
+  head-long : tagNo s k ≡ 1 → (length (valueNo s k) ≡ headBytes → ⊥) → Blames s k 4
+  event-long : tagNo s k ≡ 2 → (length (valueNo s k) ≡ eventBytes (soFar s k .head .edition) + dataBytes (shapeOf (valueNo s k)) → ⊥) → Blames s k 4
+  row-long : tagNo s k ≡ 3 → (length (valueNo s k) ≡ rowBytes (soFar s k .head .edition) → ⊥) → Blames s k 4
+  pair-long : tagNo s k ≡ 4 → (length (valueNo s k) ≡ pairBytes → ⊥) → Blames s k 4
+  -- "5, 6, 7, 8 content of head, event, row, pair": 01's sentences on it, specs/Content.antt
+  of-head : tagNo s k ≡ 1 → headFits (headOf (valueNo s k)) ≡ false → Blames s k 5
+  of-event : tagNo s k ≡ 2 → eventFits (soFar s k .head) (soFar s k .events) (agentOf (valueNo s k)) (shapeOf (valueNo s k)) ≡ false → Blames s k 6
+  of-row : tagNo s k ≡ 3 → rowFits (soFar s k .events) (soFar s k .rows) (rowOf (valueNo s k)) ≡ false → Blames s k 7
+  of-pair : tagNo s k ≡ 4 → pairFits (soFar s k .events) (soFar s k .pairs) (pairOf (valueNo s k)) ≡ false → Blames s k 8
   -- "9 fifth init, 17th other event, 33rd pair"
-  one-event-more : tagNo s k ≡ 2 → Blames s k 9
-  one-pair-more : tagNo s k ≡ 4 → Blames s k 9
+  one-init-more : tagNo s k ≡ 2 → agentOf (valueNo s k) ≡ 0 → maxInits ≤ inits (soFar s k .events) → Blames s k 9
+  one-other-more : tagNo s k ≡ 2 → (agentOf (valueNo s k) ≡ 0 → ⊥) → maxOthers ≤ others (soFar s k .events) → Blames s k 9
+  one-pair-more : tagNo s k ≡ 4 → maxPairs ≤ length (soFar s k .pairs) → Blames s k 9
 
 -- 01: "Fields are taken front to back; the first at fault decides."
 pub record FirstFault (s : List ℕ) (k n : ℕ) : Type 0 where

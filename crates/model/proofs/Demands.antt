@@ -4,9 +4,9 @@ use mathlib.Core.Logic.{⊎-elim}
 use mathlib.Core.Bool.{Bool}
 use mathlib.Core.List.{List, _++_}
 use mathlib.Core.Option.{Option, none, some}
-use Prim.Native.Nat.{ℕ, _≤_}
+use Prim.Native.Nat.{ℕ, zero, suc, _≤_, _<_}
 use native.Mathlib.Omega.{arith}
-use lib.ListN.{length, take, drop}
+use lib.ListN.{length, getD, take, drop, replicate}
 use lib.Seq.{take-take}
 use Rattle.basis.specs.Test.{from}
 use Rattle.format.specs.Execution.{Execution, inits}
@@ -18,6 +18,7 @@ use Rattle.sheet.proofs.PromiseLaws.{promise}
 use Rattle.sheet.proofs.WellSheetLaws.{exactly}
 use Rattle.sheet.proofs.RefusalLaws.{refusal, refusal-number}
 use Rattle.sets.specs.Table.{cleared}
+use Rattle.sets.proofs.TableLaws.{cleared-within, cleared-rest, length-cleared}
 use Rattle.orders.specs.Order.{Meets}
 use Rattle.orders.specs.First.{FirstOf}
 use Rattle.orders.proofs.InitsLaws.{first-inits}
@@ -30,12 +31,13 @@ use Rattle.model.specs.Rules.{faulty, fault}
 use Rattle.model.specs.Order.{problem}
 use Rattle.model.specs.Unsettled.{unsettledPair}
 use Rattle.model.specs.Judged.{needed, Breaks, settledOf, JudgedConsistent, Judged}
-use Rattle.model.specs.Demands.{IsRefused, Result, Refuses, by-sheet, short-scratch, short-order, Demand1, Allowed, Meant, Demand2, Demand3, Agreement, SaysTheVerdict, OneVerdict, NeverShort, Rowed, OneRowEach, FitsWord, SameWord, InitsFirst, FirstNamed, LowestPair, Reduction}
+use Rattle.model.specs.Demands.{IsRefused, IsConsistent, Result, Refuses, by-sheet, short-scratch, short-order, Demand1, Allowed, Meant, Demand2, Testable, Demand3, Agreement, SaysTheVerdict, OneVerdict, NeverShort, Rowed, OneRowEach, Left, LeavesZero, FitsWord, SameWord, InitsFirst, FirstNamed, LowestPair, Reduction}
 use Rattle.model.proofs.Sound.{Sound, sound}
 use Rattle.model.proofs.UnsettledLaws.{none-orderly, orderly-none}
 use Rattle.model.proofs.Serial.{explains}
 use Rattle.model.proofs.JudgedLaws.{admitted-whole, whole-admitted, Short, scratch-short, order-short, refused-cases, moved, same-whole, never-both, breaks-not, judged-unique}
-use Rattle.model.proofs.Outcome.{outcome}
+use Rattle.model.proofs.Outcome.{outcome, look, hbTable}
+use Rattle.model.proofs.ClosureLaws.{table-tests}
 use Rattle.model.proofs.OutcomeLaws.{outcome-judged}
 use Rattle.model.proofs.OrderLaws.{inits-others, begins}
 use Rattle.model.proofs.FirstLaws.{pair-lowest}
@@ -156,6 +158,28 @@ result s scratch order =
       judged = outcome-judged sounds s scratch order;
     }
 
+-- ---- the buffers
+
+zeros-at : (n : ℕ) (l : List ℕ) (i : ℕ) → i < n → getD (replicate n 0 ++ l) i 1 ≡ 0
+zeros-at zero l i h = absurd (omega arith)
+zeros-at (suc n) l zero h = refl
+zeros-at (suc n) l (suc i) h = zeros-at n l i (omega arith)
+
+left : (s scratch scratch′ : List ℕ) (y x : Execution) → y ≡ x → needed y ≤ length scratch → scratch′ ≡ cleared (needed y) scratch
+    → (answer : Answer) (order order′ : List ℕ) → ((IsConsistent answer → ⊥) → order′ ≡ order)
+    → (IsConsistent answer → drop (length (x .events)) order′ ≡ drop (length (x .events)) order) → Left x scratch order answer scratch′ order′
+left s scratch scratch′ y x e fits c answer order order′ b d =
+    let q : scratch′ ≡ cleared (needed x) scratch = c ∙ ap (λ (z : Execution). cleared (needed z) scratch) e in
+    let f : needed x ≤ length scratch = subst (λ (z : Execution). needed z ≤ length scratch) e fits in
+    let w = cleared-within (needed x) scratch f in
+    record {
+      size = ap length q ∙ length-cleared (needed x) scratch f;
+      zero = λ i h. ap (λ (l : List ℕ). getD l i 1) (q ∙ w) ∙ zeros-at (needed x) (drop (needed x) scratch) i h;
+      rest = ap (drop (needed x)) q ∙ cleared-rest (needed x) scratch f;
+      broken = b;
+      consistent = d;
+    }
+
 -- ---- the claims
 
 pub demand1 : Demand1
@@ -169,6 +193,9 @@ demand1 =
 
 pub demand2 : Demand2
 demand2 s scratch order answer scratch′ order′ x hb w a b tests j = meant s scratch order x hb tests scratch′ order′ answer (whole-of s x w) a b j
+
+pub testable : Testable
+testable s x w = (look (hbTable x), table-tests x (sound x (w .well-formed)))
 
 pub demand3 : Demand3
 demand3 s scratch order scratch′ order′ x hb w tests j o m =
@@ -192,6 +219,18 @@ one-row-each s scratch order answer scratch′ order′ h j =
     let d = judged-sheet s scratch order answer scratch′ order′ h j in
     let w = exactly s (d .0) .0 (d .1) in
     record { execution = d .0; sheet = w; one-row = w .well-formed .row-for-each }
+
+pub leaves-zero : LeavesZero
+leaves-zero s scratch order (Refused n p) scratch′ order′ x w h j = absurd (h (n, p, refl))
+leaves-zero s scratch order (Broken n names) scratch′ order′ x w h j =
+    let a = admitted-whole s (length scratch) (length order) (j .execution) (j .describes) in
+    left s scratch scratch′ (j .execution) x (same-whole (a .describes) (whole-of s x w)) (a .scratch) (j .scratch-cleared) (Broken n names) order order′
+    (λ c. j .order-kept) (λ c. ap (drop (length (x .events))) (j .order-kept))
+leaves-zero s scratch order (Consistent t) scratch′ order′ x w h j =
+    let a = admitted-whole s (length scratch) (length order) (j .execution) (j .describes) in
+    let e = same-whole (a .describes) (whole-of s x w) in
+    left s scratch scratch′ (j .execution) x e (a .scratch) (j .scratch-cleared) (Consistent t) order order′
+    (λ c. absurd (c (t, refl))) (λ c. subst (λ (y : Execution). drop (length (y .events)) order′ ≡ drop (length (y .events)) order) e (j .order-rest))
 
 pub fits-word : FitsWord
 fits-word = judged-fits

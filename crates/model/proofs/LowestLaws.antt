@@ -29,7 +29,7 @@ use Rattle.model.specs.Happens.{Tests}
 use Rattle.model.specs.Rules.{breaks21, breaks22, breaks23, breaks24, breaks25, untornFrom, Fault, faulty, fault}
 use Rattle.model.specs.Order.{problem}
 use Rattle.model.specs.Judged.{Breaks}
-use Rattle.model.specs.Lowest.{Lowest, at-21, at-22, at-23, at-24, at-25, at-26, FirstBroken}
+use Rattle.model.specs.Lowest.{Lowest, at-21, at-22, at-23, at-24, at-25, at-26, Somewhere, by-21, by-22, by-23, by-24, by-25, by-26, FirstBroken}
 use Rattle.model.proofs.EventsLaws.{writes-covers, covering-inside, number-mem}
 use Rattle.model.proofs.Sound.{Sound, sound}
 use Rattle.model.proofs.HappensLaws.{reader-inside, writer-inside, happens-inside}
@@ -177,21 +177,21 @@ module _ (x : Execution) (hb : ℕ → ℕ → Bool) (wf : WellFormed x) (so : S
     p25 : 25 < n → find (test25 x) (triples x) ≡ none
     p26 : n ≤ 26
 
-  past : (n : ℕ) → Past n → (m : ℕ) (names : Names) → Lowest x hb m names → n ≤ m
-  past n p m names l = holds m names l (decLt m n)
+  past : (n : ℕ) → Past n → (m : ℕ) → Somewhere x hb m → n ≤ m
+  past n p m l = holds m l (decLt m n)
     where
-      holds : (k : ℕ) (who : Names) → Lowest x hb k who → Dec (k < n) → n ≤ k
-      holds k who w (no h) = omega arith
-      holds k who (at-21 j b t e) (yes h) = absurd (find-none (breaks21 x) (x .rows) (p .p21 h) (row x j) (getD-mem noRow (x .rows) j b) t)
-      holds k who (at-22 e t b) (yes h) = absurd (find-none (breaks22 hb) (numbers x) (p .p22 h) e (number-mem x e (event-22 e t)) t)
-      holds k who (at-23 j b t e) (yes h) = absurd (find-none (breaks23 hb) (x .rows) (p .p23 h) (row x j) (getD-mem noRow (x .rows) j b) t)
-      holds k who (at-24 j v b t e) (yes h) =
+      holds : (k : ℕ) → Somewhere x hb k → Dec (k < n) → n ≤ k
+      holds k w (no h) = omega arith
+      holds k (by-21 j b t) (yes h) = absurd (find-none (breaks21 x) (x .rows) (p .p21 h) (row x j) (getD-mem noRow (x .rows) j b) t)
+      holds k (by-22 e t) (yes h) = absurd (find-none (breaks22 hb) (numbers x) (p .p22 h) e (number-mem x e (event-22 e t)) t)
+      holds k (by-23 j b t) (yes h) = absurd (find-none (breaks23 hb) (x .rows) (p .p23 h) (row x j) (getD-mem noRow (x .rows) j b) t)
+      holds k (by-24 j v b t) (yes h) =
           absurd (find-none (test24 x hb) (across (x .rows) (numbers x)) (p .p24 h) (row x j, v)
           (across-mem (x .rows) (numbers x) (row x j) v (getD-mem noRow (x .rows) j b) (number-mem x v (event-24 (row x j) v t))) t)
-      holds k who (at-25 r w v t b) (yes h) = let i = events-25 r w v t in
+      holds k (by-25 r w v t) (yes h) = let i = events-25 r w v t in
           absurd (find-none (test25 x) (triples x) (p .p25 h) (r, (w, v)) (across-mem (numbers x) (across (numbers x) (numbers x)) r (w, v) (number-mem x r (i .0))
           (across-mem (numbers x) (numbers x) w v (number-mem x w (i .1)) (number-mem x v (i .2)))) t)
-      holds k who (at-26 b) (yes h) = let q = p .p26 in absurd (omega arith)
+      holds k (by-26 b) (yes h) = let q = p .p26 in absurd (omega arith)
 
   -- ---- the fault that is answered
 

@@ -1,7 +1,8 @@
 -- What is claimed of the answers, for all sheets and buffers. Proved, a line each, in proofs/Demands.antt.
 --     Demand1        any bytes get an answer; a refusal is by 01's table and changes nothing; a read byte without a row is refused
 --     Demand2        what consistent, broken and orderly mean of a well-formed sheet, and that it is not refused
---     Demand3        an orderly execution replays on a plain memory
+--     Demand3        an orderly execution replays on a plain memory            Testable          happens-before has a test
+--     LeavesZero     what both buffers hold behind an answer that is no refusal
 --     Agreement      two answers agree, buffers too                            SaysTheVerdict    lent enough, the answer is the sheet's own
 --     OneVerdict     of a sheet one thing is to be said                        NeverShort        and that is never 12 or 13
 --     OneRowEach     what is judged has one row for each read byte
@@ -16,13 +17,13 @@ use mathlib.Core.Logic.{_↔_}
 use mathlib.Core.Bool.{Bool}
 use mathlib.Core.List.{List, _++_, List·Memᴰ}
 use mathlib.Core.Option.{none}
-use Prim.Native.Nat.{ℕ, _≤_, _<_}
+use Prim.Native.Nat.{ℕ, _≤_, _<_, _^_, _/_, max}
 use lib.Dec.{T}
-use lib.ListN.{length, take, drop}
+use lib.ListN.{length, getD, take, drop}
 use Rattle.basis.specs.Test.{from}
 use Rattle.format.specs.Limits.{maxEvents}
 use Rattle.format.specs.Event.{readsAt}
-use Rattle.format.specs.Execution.{Execution, event, inits}
+use Rattle.format.specs.Execution.{Execution, event, inits, others}
 use Rattle.sheet.specs.Promise.{OneRow}
 use Rattle.sheet.specs.Described.{described, Rowless}
 use Rattle.sheet.specs.WellSheet.{WellSheet}
@@ -103,6 +104,10 @@ Demand2 = (s scratch order : List ℕ) (answer : Answer) (scratch′ order′ : 
     → WellSheet s x → needed x ≤ length scratch → length (x .events) ≤ length order → Tests x hb
     → Judged s scratch order answer scratch′ order′ → Meant x hb answer order′
 
+-- there is such a test of happens-before (and one: `tests-unique` in proofs/HappensLaws.antt)
+abbrev pub Testable : Type 0
+Testable = (s : List ℕ) (x : Execution) → WellSheet s x → (hb : ℕ → ℕ → Bool) × Tests x hb
+
 -- ---- demand 3
 
 -- consistent and orderly; then for every order that meets the rules, running the events one after another on a plain byte memory, whatever it
@@ -139,6 +144,19 @@ pub record Rowed (s : List ℕ) : Type 0 where
 abbrev pub OneRowEach : Type 0
 OneRowEach = (s scratch order : List ℕ) (answer : Answer) (scratch′ order′ : List ℕ) → (IsRefused answer → ⊥)
     → Judged s scratch order answer scratch′ order′ → Rowed s
+
+-- 01: "Broken: the needed part of the scratch is zero, the rest and the order buffer unchanged. Consistent: the same for the scratch, and the order
+-- buffer's first bytes, one for each event, hold the order; its rest is unchanged." n is the number of events that are not inits.
+pub record Left (x : Execution) (scratch order : List ℕ) (answer : Answer) (scratch′ order′ : List ℕ) : Type 0 where
+  pub size : length scratch′ ≡ length scratch
+  pub zero : (i : ℕ) → i < max 1 (2 ^ others (x .events) / 8) → getD scratch′ i 1 ≡ 0
+  pub rest : drop (max 1 (2 ^ others (x .events) / 8)) scratch′ ≡ drop (max 1 (2 ^ others (x .events) / 8)) scratch
+  pub broken : (IsConsistent answer → ⊥) → order′ ≡ order
+  pub consistent : IsConsistent answer → drop (length (x .events)) order′ ≡ drop (length (x .events)) order
+
+abbrev pub LeavesZero : Type 0
+LeavesZero = (s scratch order : List ℕ) (answer : Answer) (scratch′ order′ : List ℕ) (x : Execution) → WellSheet s x → (IsRefused answer → ⊥)
+    → Judged s scratch order answer scratch′ order′ → Left x scratch order answer scratch′ order′
 
 -- ---- the word
 

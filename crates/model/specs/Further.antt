@@ -3,10 +3,10 @@
 --     further     the table
 use mathlib.Core.List.{List, [], _∷_}
 use lib.ListN.{replicate}
-use Rattle.answer.specs.declared.Names.the-variants.{Row as OfRow, Event as OfEvent, Between, Nobody}
+use Rattle.answer.specs.declared.Names.the-variants.{Row as OfRow, Event as OfEvent, Between, Nobody, Torn}
 use Rattle.answer.specs.declared.Settled.the-variants.{Orderly, Unsettled}
 use Rattle.answer.specs.declared.Answer.the-variants.{Refused, Broken, Consistent}
-use Rattle.model.specs.Litmus.{sheet, head, unordered, sc, init, read, write, modify, marker, row, pair, Entry, lending, judged}
+use Rattle.model.specs.Litmus.{sheet, head, unordered, sc, init, read, write, modify, marker, row, pair, Entry, lending, judged, example}
 
 unfoldable pub further : List Entry
 further =
@@ -102,4 +102,11 @@ further =
     ∷ judged (sheet (head 2 2 ∷ init 0 (0 ∷ []) ∷ init 1 (0 ∷ []) ∷ write 1 unordered 1 (1 ∷ []) ∷ read 2 unordered 0 (0 ∷ []) ∷ row 3 0 0 ∷ [])) (Consistent Orderly) (0 ∷ 1 ∷ 2 ∷ 3 ∷ [])
     -- Further entry 31: a read-modify-write chain: A1 x 0->1, A2 x 1->2, A3 x reads 2 unordered
     ∷ judged (sheet (head 3 1 ∷ init 0 (0 ∷ []) ∷ modify 1 0 (0 ∷ []) (1 ∷ []) ∷ modify 2 0 (1 ∷ []) (2 ∷ []) ∷ read 3 unordered 0 (2 ∷ []) ∷ row 1 0 0 ∷ row 2 0 1 ∷ row 3 0 2 ∷ [])) (Consistent (Unsettled 1 3)) (0 ∷ 1 ∷ 2 ∷ 3 ∷ [])
+    -- Further entry 32: 12 with width 4
+    ∷ judged (sheet (head 3 4 ∷ init 0 (replicate 4 0) ∷ write 1 unordered 0 (replicate 4 1) ∷ write 2 unordered 0 (replicate 4 2) ∷ read 3 unordered 0 (1 ∷ 2 ∷ 2 ∷ 2 ∷ []) ∷ row 3 0 1 ∷ row 3 1 2 ∷ row 3 2 2 ∷ row 3 3 2 ∷ [])) (Broken 25 (Torn 3 1 2)) []
+    -- Further entry 33: width 8, all sc, an sc read of both writes
+    ∷ judged (sheet (head 3 8 ∷ init 0 (replicate 8 0) ∷ write 1 sc 0 (replicate 8 1) ∷ write 2 sc 0 (replicate 8 2) ∷ read 3 sc 0 (1 ∷ 2 ∷ 2 ∷ 2 ∷ 2 ∷ 2 ∷ 2 ∷ 2 ∷ []) ∷ row 3 0 1 ∷ row 3 1 2 ∷ row 3 2 2 ∷ row 3 3 2 ∷ row 3 4 2 ∷ row 3 5 2 ∷ row 3 6 2 ∷ row 3 7 2 ∷ [])) (Broken 25 (Torn 3 1 2)) []
+    -- 01's example needs one byte of scratch, and no more; with none: 12
+    ∷ lending 1 2 example (Consistent Orderly) (0 ∷ 1 ∷ [])
+    ∷ lending 0 2 example (Refused 12 0) []
     ∷ []

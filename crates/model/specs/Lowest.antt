@@ -2,7 +2,8 @@
 -- before the next. Rows are taken in order; then the lowest V. For 22 the lowest event, for 25 the lowest (R, W, V)."). Proved of every fault that
 -- is answered: proofs/LowestLaws.antt.
 --     Lowest x hb n names          rule n is broken where the names say, and nowhere before that
---     FirstBroken x hb n names     and no rule with a lower number is broken anywhere
+--     Somewhere x hb m             rule m is broken somewhere
+--     FirstBroken x hb n names     rule n is the first that is broken, and the names are the lowest
 -- `Lex` (orders/specs/First.antt) compares number by number.
 -- Assumes nothing.
 use mathlib.Core.Bool.{Bool}
@@ -36,6 +37,15 @@ pub data Lowest (x : Execution) (hb : ℕ → ℕ → Bool) : ℕ → Names → 
       → Lowest x hb 25 (Torn r w v)
   at-26 : ((o : List ℕ) → Meets (problem x hb) o → ⊥) → Lowest x hb 26 Nobody
 
+-- rule m is broken somewhere
+pub data Somewhere (x : Execution) (hb : ℕ → ℕ → Bool) : ℕ → Type 0 where
+  by-21 : (j : ℕ) → j < length (x .rows) → T (breaks21 x (row x j)) → Somewhere x hb 21
+  by-22 : (e : ℕ) → T (breaks22 hb e) → Somewhere x hb 22
+  by-23 : (j : ℕ) → j < length (x .rows) → T (breaks23 hb (row x j)) → Somewhere x hb 23
+  by-24 : (j v : ℕ) → j < length (x .rows) → T (breaks24 x hb (row x j) v) → Somewhere x hb 24
+  by-25 : (r w v : ℕ) → T (breaks25 x r w v) → Somewhere x hb 25
+  by-26 : ((o : List ℕ) → Meets (problem x hb) o → ⊥) → Somewhere x hb 26
+
 pub record FirstBroken (x : Execution) (hb : ℕ → ℕ → Bool) (n : ℕ) (names : Names) : Type 0 where
   pub lowest : Lowest x hb n names
-  pub none-before : (m : ℕ) (others : Names) → Lowest x hb m others → n ≤ m
+  pub none-before : (m : ℕ) → Somewhere x hb m → n ≤ m

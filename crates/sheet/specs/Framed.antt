@@ -1,5 +1,5 @@
--- A sheet whose fields are cut nowhere and have 01's tags and lengths, whatever they say (01, "The sheet"). No test of the reader is named here.
--- Laws: proofs/FramedLaws.antt.
+-- A sheet whose fields are cut nowhere and have 01's tags and lengths, whatever they say (01, "The sheet"). Of the reader's definitions only
+-- `dataBytes` is named here, 01's sentence on the length of an event's data. Laws: proofs/FramedLaws.antt.
 --     Long edition tag v        a value as long as its tag asks
 --     Sits s edition p last     the field at p, behind one with the tag `last`
 --     Fields s edition p last   from place p on, behind a field with the tag `last`, such fields follow one another to the sheet's end

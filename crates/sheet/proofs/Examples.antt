@@ -13,9 +13,9 @@ use Rattle.format.specs.Shape.{reads, writes, marks, initial, unordered, sc, te
 use Rattle.sheet.specs.Content.{within, headFits, inside, initFormed, sized, kindFits, otherFormed, formed, standsFirst, eventFits, dataBytes, roomFor, joins, rowRises, rowFits, parts, pairRises, pairFits}
 use Rattle.sheet.specs.Parse.{placeOf, allowed, headFault, eventFault, rowFault, pairFault, valueFault, faultAt, taken, after, isRow, lacks, lowestLacking, completed, finish, fieldsFrom, parse}
 use Rattle.sheet.specs.Examples.{examples, Right, Longest}
-use Rattle.sheet.specs.Refusal.{Refusal, Blames}
+use Rattle.sheet.specs.Refusal.{Refusal}
 use Rattle.sheet.proofs.ParseLaws.{too-long}
-use Rattle.sheet.proofs.RefusalLaws.{refusal}
+use Rattle.sheet.proofs.RefusalLaws.{refusal, blames-number}
 
 pub right : Right
 unfolding _and_ _or_ non any all number keep find each from examples lookup accessAt shapeAt readsAt writesAt saw wrote isInit readsSome isMarker meets eventNo event inits others rowBelow pairBelow valueAt fieldPlace eventBytes seenOf writtenOf rowBytes reads writes marks initial unordered sc tearFree covers overlap equal bothSc divides tearOf within headFits inside initFormed sized kindFits otherFormed formed standsFirst eventFits dataBytes roomFor joins rowRises rowFits parts pairRises pairFits placeOf allowed headFault eventFault rowFault pairFault valueFault faultAt taken after isRow lacks lowestLacking completed finish fieldsFrom parse
@@ -24,22 +24,7 @@ right = refl
 -- only `too-long` has the number 1
 not-one : (s : List ℕ) {n p : ℕ} → Refusal s n p → n ≡ 1 → length s ≡ 4096 → ⊥
 not-one s (Refusal.too-long h) e l = omega arith
-not-one s (Refusal.at-field k a h b) e l = blamed (b .blames) e
-  where
-    blamed : {m : ℕ} → Blames s k m → m ≡ 1 → ⊥
-    blamed (Blames.cut h) q = omega arith
-    blamed (Blames.tag h) q = omega arith
-    blamed (Blames.head-long h j) q = omega arith
-    blamed (Blames.event-long h j) q = omega arith
-    blamed (Blames.row-long h j) q = omega arith
-    blamed (Blames.pair-long h j) q = omega arith
-    blamed (Blames.of-head h j) q = omega arith
-    blamed (Blames.of-event h j) q = omega arith
-    blamed (Blames.of-row h j) q = omega arith
-    blamed (Blames.of-pair h j) q = omega arith
-    blamed (Blames.one-init-more h i j) q = omega arith
-    blamed (Blames.one-other-more h i j) q = omega arith
-    blamed (Blames.one-pair-more h j) q = omega arith
+not-one s (Refusal.at-field k a h b) e l = let w = blames-number (b .blames) in omega arith
 not-one s (Refusal.empty h) e l = omega arith
 not-one s (Refusal.none-reads a f h) e l = omega arith
 not-one s (Refusal.no-row i a f d b t r h) e l = omega arith

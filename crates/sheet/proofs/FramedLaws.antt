@@ -119,6 +119,7 @@ module _ (s : List ℕ) (p : ℕ) (st : State) (f : faultAt s p st ≡ 0) where
         known = t .2;
         long =
             record {
+              head = λ e. absurd (let h = t .1 in omega arith);
               event = λ e. event-length (st .got .head) (st .got .events) (valueAt s p) (event-clean s p st f e);
               row = λ e. value-length s p st f ∙ row-length s p st f e;
               pair = λ e. value-length s p st f ∙ pair-length s p st f e;
@@ -152,7 +153,12 @@ module _ (s : List ℕ) (x : Execution) where
           let h = tags-here s 0 blank r .0 refl in
           let l = no-fault-non (eqb (length (valueAt s 0)) headBytes) 3 _ (head-clean s 0 blank r h) .0 in
           let g = fields-of k (nextAt s 0) (after s 0 blank) i (omega arith) (sym (at-field s k 0 blank (ltb-true _ _ q) r) ∙ e) in
-          record { inside = i; head = h; long = eqb-true _ _ l; fields = rw h at g }
+          record {
+            inside = i;
+            head = h;
+            long = record { head = λ _. eqb-true _ _ l; event = λ e. absurd (omega arith); row = λ e. absurd (omega arith); pair = λ e. absurd (omega arith) };
+            fields = rw h at g;
+          }
       go true q (suc n) r = not-whole (sym (at-fault s k 0 blank (suc n) (ltb-true _ _ q) r (λ d. omega arith)) ∙ e)
 
   pub accepted-framed : parse s ≡ whole x → (length s ≤ maxBytes) × Framed s

@@ -20,7 +20,7 @@ use Rattle.format.specs.Field.{fieldBytes, nextAt, fieldPlace}
 use Rattle.format.specs.Layout.{headBytes, eventBytes, rowBytes, pairBytes, headOf, agentOf, shapeOf, rowOf, pairOf}
 use Rattle.sheet.specs.Content.{within, headFits, eventFits, dataBytes, roomFor, rowFits, pairFits}
 use Rattle.sheet.specs.Parse.{allowed, headFault, eventFault, rowFault, pairFault, valueFault, faultAt}
-use Rattle.sheet.specs.Refusal.{stateNo, faultNo, valueNo, soFar, tagNo, WrongTag, unknown, falling, second-head, no-head, Blames, cut, tag, head-long, event-long, row-long, pair-long, of-head, of-event, of-row, of-pair, one-init-more, one-other-more, one-pair-more}
+use Rattle.sheet.specs.Refusal.{stateNo, faultNo, valueNo, soFar, tagNo, WrongTag, unknown, falling, second-head, no-head, Blames, cut, tag, long, of-head, of-event, of-row, of-pair, one-init-more, one-other-more, one-pair-more}
 
 -- the tag before field number k, 0 where it is the first
 abbrev pub lastTag : List ℕ → ℕ → ℕ
@@ -81,7 +81,7 @@ module _ (s : List ℕ) (k : ℕ) where
   head-answers : tagNo s k ≡ 1 → Answers (headFault v)
   unfolding headFault
   head-answers e =
-      rung Answers (non (eqb (length v) headBytes)) _ _ (λ a. inr (head-long e (not-so _ _ a)))
+      rung Answers (non (eqb (length v) headBytes)) _ _ (λ a. inr (long (λ l. not-so _ _ a (l .head e))))
       (λ _. rung Answers (non (headFits (headOf v))) _ _ (λ a. inr (of-head e (non-true _ a))) (λ _. inl refl))
 
   no-room : tagNo s k ≡ 2 → roomFor (x .events) (agentOf v) ≡ false → Blames s k 9
@@ -96,21 +96,21 @@ module _ (s : List ℕ) (k : ℕ) where
   unfolding eventFault
   event-answers e =
       rung Answers (ltb (length v) (eventBytes (x .head .edition))) _ _
-      (λ a. inr (event-long e (λ q. let h = ltb-true (length v) (eventBytes (x .head .edition)) a in omega arith)))
+      (λ a. inr (long (λ l. let h = ltb-true (length v) (eventBytes (x .head .edition)) a in let q = l .event e in omega arith)))
       (λ _. rung Answers (non (eventFits (x .head) (x .events) (agentOf v) (shapeOf v))) _ _ (λ a. inr (of-event e (non-true _ a)))
-      (λ _. rung Answers (non (eqb (length v) (eventBytes (x .head .edition) + dataBytes (shapeOf v)))) _ _ (λ a. inr (event-long e (not-so _ _ a)))
+      (λ _. rung Answers (non (eqb (length v) (eventBytes (x .head .edition) + dataBytes (shapeOf v)))) _ _ (λ a. inr (long (λ l. not-so _ _ a (l .event e))))
       (λ _. rung Answers (non (roomFor (x .events) (agentOf v))) _ _ (λ a. inr (no-room e (non-true _ a))) (λ _. inl refl))))
 
   row-answers : tagNo s k ≡ 3 → Answers (rowFault (x .head) (x .events) (x .rows) v)
   unfolding rowFault
   row-answers e =
-      rung Answers (non (eqb (length v) (rowBytes (x .head .edition)))) _ _ (λ a. inr (row-long e (not-so _ _ a)))
+      rung Answers (non (eqb (length v) (rowBytes (x .head .edition)))) _ _ (λ a. inr (long (λ l. not-so _ _ a (l .row e))))
       (λ _. rung Answers (non (rowFits (x .events) (x .rows) (rowOf v))) _ _ (λ a. inr (of-row e (non-true _ a))) (λ _. inl refl))
 
   pair-answers : tagNo s k ≡ 4 → Answers (pairFault (x .events) (x .pairs) v)
   unfolding pairFault
   pair-answers e =
-      rung Answers (non (eqb (length v) pairBytes)) _ _ (λ a. inr (pair-long e (not-so _ _ a)))
+      rung Answers (non (eqb (length v) pairBytes)) _ _ (λ a. inr (long (λ l. not-so _ _ a (l .pair e))))
       (λ _. rung Answers (non (pairFits (x .events) (x .pairs) (pairOf v))) _ _ (λ a. inr (of-pair e (non-true _ a)))
       (λ _. rung Answers (non (ltb (length (x .pairs)) maxPairs)) _ _ (λ a. inr (one-pair-more e (ltb-false _ _ (non-true _ a)))) (λ _. inl refl)))
 

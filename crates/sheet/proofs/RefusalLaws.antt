@@ -1,5 +1,6 @@
 -- Every refusal of `parse` is by a row of 01's table: specs/Refusal.antt. Kept field by field, then the tests after all fields. So the fuel never runs out.
 --     refusal : Tabled
+--     blames-number : Blames s k n → (2 ≤ n) × (n ≤ 9)
 --     refusal-number : parse s ≡ refused n p → (1 ≤ n) × (n ≤ 11)
 --     refusal-place : parse s ≡ refused n p → p ≤ length s
 -- Assumes nothing.
@@ -275,27 +276,25 @@ refusal s n p e = go (ltb maxBytes (length s)) refl
     go true q = said s n p (Refusal.too-long (ltb-true _ _ q)) (simp q at e)
     go false q = fields-refused s n p (ltb-false _ _ q) (suc (length s)) 0 (omega arith) (omega arith) (λ j h. absurd (omega arith)) (known-blank s) refl (simp q at e)
 
+-- a field is refused by 2 to 9
+pub blames-number : {s : List ℕ} {k n : ℕ} → Blames s k n → (2 ≤ n) × (n ≤ 9)
+blames-number (Blames.cut h) = (omega arith, omega arith)
+blames-number (Blames.tag h) = (omega arith, omega arith)
+blames-number (Blames.long h) = (omega arith, omega arith)
+blames-number (Blames.of-head h j) = (omega arith, omega arith)
+blames-number (Blames.of-event h j) = (omega arith, omega arith)
+blames-number (Blames.of-row h j) = (omega arith, omega arith)
+blames-number (Blames.of-pair h j) = (omega arith, omega arith)
+blames-number (Blames.one-init-more h i j) = (omega arith, omega arith)
+blames-number (Blames.one-other-more h i j) = (omega arith, omega arith)
+blames-number (Blames.one-pair-more h j) = (omega arith, omega arith)
+
 pub refusal-number : (s : List ℕ) (n p : ℕ) → parse s ≡ refused n p → (1 ≤ n) × (n ≤ 11)
 refusal-number s n p e = go (refusal s n p e)
   where
-    field : {k m : ℕ} → Blames s k m → (1 ≤ m) × (m ≤ 11)
-    field (Blames.cut h) = (omega arith, omega arith)
-    field (Blames.tag h) = (omega arith, omega arith)
-    field (Blames.head-long h j) = (omega arith, omega arith)
-    field (Blames.event-long h j) = (omega arith, omega arith)
-    field (Blames.row-long h j) = (omega arith, omega arith)
-    field (Blames.pair-long h j) = (omega arith, omega arith)
-    field (Blames.of-head h j) = (omega arith, omega arith)
-    field (Blames.of-event h j) = (omega arith, omega arith)
-    field (Blames.of-row h j) = (omega arith, omega arith)
-    field (Blames.of-pair h j) = (omega arith, omega arith)
-    field (Blames.one-init-more h i j) = (omega arith, omega arith)
-    field (Blames.one-other-more h i j) = (omega arith, omega arith)
-    field (Blames.one-pair-more h j) = (omega arith, omega arith)
-
     go : {m o : ℕ} → Refusal s m o → (1 ≤ m) × (m ≤ 11)
     go (Refusal.too-long h) = (omega arith, omega arith)
-    go (Refusal.at-field k l h b) = field (b .blames)
+    go (Refusal.at-field k l h b) = let w = blames-number (b .blames) in (omega arith, omega arith)
     go (Refusal.empty h) = (omega arith, omega arith)
     go (Refusal.none-reads l f h) = (omega arith, omega arith)
     go (Refusal.no-row i l f d a t r h) = (omega arith, omega arith)

@@ -85,7 +85,7 @@ well-accepted s x w =
     let d = ap got (taken-next s (length s) 0 blank (omega arith) (omega arith)) ∙ w .describes in
     let g = grown s x (f .fields) (length s - 1) st (omega arith) d in
     let h : headOf (valueAt s 0) ≡ x .head = rw (f .head) at (g .head) in
-    let z = field-passes s 0 blank i (rw (f .head)) (rw (f .head) (head-passes x (w .well-formed) (valueAt s 0) h (f .long))) in
+    let z = field-passes s 0 blank i (rw (f .head)) (rw (f .head) (head-passes x (w .well-formed) (valueAt s 0) h (f .long .head refl))) in
     at-start s (w .short) ∙ at-next s (length s) 0 blank (omega arith) (omega arith) z
     ∙ walk s x (w .well-formed) (rw (ap (λ (y : Head). y .edition) h) at (f .fields)) (length s - 1) st (omega arith) (omega arith) (f .head) (g .head) d
 

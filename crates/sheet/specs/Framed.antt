@@ -13,8 +13,9 @@ use Rattle.format.specs.Field.{tagAt, nextAt, valueAt}
 use Rattle.format.specs.Layout.{headBytes, eventBytes, rowBytes, pairBytes, headOf, shapeOf}
 use Rattle.sheet.specs.Content.{dataBytes}
 
--- 01's table of tags: "2 event: agent, kind, mode, start, width, then data", "3 row: reader, address, writer", "4 pair: marker, marker"
+-- 01's table of tags: "1 head: edition (1), agents (1 to 8), memory size in bytes (1 to 64)", "2 event: agent, kind, mode, start, width, then data", "3 row: reader, address, writer", "4 pair: marker, marker"
 pub record Long (edition tag : ℕ) (v : List ℕ) : Type 0 where
+  pub head : tag ≡ 1 → length v ≡ headBytes
   pub event : tag ≡ 2 → length v ≡ eventBytes edition + dataBytes (shapeOf v)
   pub row : tag ≡ 3 → length v ≡ rowBytes edition
   pub pair : tag ≡ 4 → length v ≡ pairBytes
@@ -31,9 +32,9 @@ pub data Fields (s : List ℕ) (edition : ℕ) : ℕ → ℕ → Type 0 where
   no-more : (p last : ℕ) → p ≡ length s → Fields s edition p last
   one-more : (p last : ℕ) → Sits s edition p last → Fields s edition (nextAt s p) (tagAt s p) → Fields s edition p last
 
--- 01: "1 head: edition (1), agents (1 to 8), memory size in bytes (1 to 64)": the edition decides how long the others are
+-- 01: "tag 1 comes first and once"; the head's edition decides how long the others are
 pub record Framed (s : List ℕ) : Type 0 where
   pub inside : nextAt s 0 ≤ length s
   pub head : tagAt s 0 ≡ 1
-  pub long : length (valueAt s 0) ≡ headBytes
+  pub long : Long (headOf (valueAt s 0) .edition) 1 (valueAt s 0)
   pub fields : Fields s (headOf (valueAt s 0) .edition) (nextAt s 0) 1

@@ -10,17 +10,18 @@
 use mathlib.Core.Path.{_≡_}
 use mathlib.Core.Bool.{false}
 use mathlib.Core.List.{List}
-use Prim.Native.Nat.{ℕ, zero, suc, _+_, _<_, _≤_}
+use Prim.Native.Nat.{ℕ, zero, suc, _<_, _≤_}
 use lib.Dec.{T}
 use lib.ListN.{length}
 use Rattle.format.specs.Limits.{maxBytes, maxInits, maxOthers, maxPairs}
 use Rattle.format.specs.Event.{readsSome}
 use Rattle.format.specs.Execution.{Execution, event, inits, others}
 use Rattle.format.specs.Field.{tagAt, nextAt, valueAt, fieldPlace}
-use Rattle.format.specs.Layout.{headBytes, eventBytes, rowBytes, pairBytes, headOf, agentOf, shapeOf, rowOf, pairOf}
-use Rattle.sheet.specs.Content.{headFits, eventFits, dataBytes, rowFits, pairFits}
+use Rattle.format.specs.Layout.{headOf, agentOf, shapeOf, rowOf, pairOf}
+use Rattle.sheet.specs.Content.{headFits, eventFits, rowFits, pairFits}
 use Rattle.sheet.specs.Parse.{refused, State, blank, faultAt, after, parse}
 use Rattle.sheet.specs.Described.{described, RowlessAt}
+use Rattle.sheet.specs.Framed.{Long}
 
 -- what has been read behind k fields, and the fault of the next (specs/Parse.antt: `faultAt`, 01's tests of a field in their order)
 unfoldable pub stateNo : List ℕ → ℕ → State
@@ -56,10 +57,7 @@ pub data Blames (s : List ℕ) (k : ℕ) : ℕ → Type 0 where
   cut : length s < nextAt s (fieldPlace s k) → Blames s k 2
   tag : WrongTag s k → Blames s k 3
   -- "4 length wrong for the field"
-  head-long : tagNo s k ≡ 1 → (length (valueNo s k) ≡ headBytes → ⊥) → Blames s k 4
-  event-long : tagNo s k ≡ 2 → (length (valueNo s k) ≡ eventBytes (soFar s k .head .edition) + dataBytes (shapeOf (valueNo s k)) → ⊥) → Blames s k 4
-  row-long : tagNo s k ≡ 3 → (length (valueNo s k) ≡ rowBytes (soFar s k .head .edition) → ⊥) → Blames s k 4
-  pair-long : tagNo s k ≡ 4 → (length (valueNo s k) ≡ pairBytes → ⊥) → Blames s k 4
+  long : (Long (soFar s k .head .edition) (tagNo s k) (valueNo s k) → ⊥) → Blames s k 4
   -- "5, 6, 7, 8 content of head, event, row, pair": 01's sentences on it, specs/Content.antt
   of-head : tagNo s k ≡ 1 → headFits (headOf (valueNo s k)) ≡ false → Blames s k 5
   of-event : tagNo s k ≡ 2 → eventFits (soFar s k .head) (soFar s k .events) (agentOf (valueNo s k)) (shapeOf (valueNo s k)) ≡ false → Blames s k 6

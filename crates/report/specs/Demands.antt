@@ -1,7 +1,7 @@
 -- Promises of the report line that no single function makes. Proved in proofs/Demands.antt.
---     Agree       two results for one answer, one order and one buffer are equal, the buffer too
---     LongEnough      a buffer of 34 + 4 * n bytes holds every line that the code can be asked for, with an order of n events
---     Readable    the decimal digits tell the number
+--     Agree         two results for one answer, one order and one buffer are equal, the buffer too
+--     LongEnough    a buffer of 34 + 4 * n bytes holds every line that the code can be asked for, with an order of n events
+--     Readable      the decimal digits tell the number
 -- Assumes nothing.
 use mathlib.Core.Path.{_≡_}
 use mathlib.Core.List.{List}

@@ -1,23 +1,25 @@
 -- The laws of specs/Tables.antt: the bridge from the problem on predicates to masks. Assumes nothing.
 --     ready-of ready-within ready-unbarred    what can be placed, as the code tests it
+--     readers-none readers-more writers-empty     the readers that have bars with v; none
 --     writers-none writers-in writers-out     the writers that have bars with v, one after the other
 --     left-start left-lowest left-next left-end    those of them that are placed, one after the other
 --     with-insert below-full                  a set with one event more, and the set of the inits, as numbers
 use Prim.Native.Nat.{ℕ, _+_, _*_, _^_, _<_, _≤_}
 use mathlib.Core.Path.{_≡_, refl, sym, ap, ap₂, subst, _∙_}
-use mathlib.Core.Bool.{Bool, _&&_}
+use mathlib.Core.Bool.{Bool, true, _&&_, _||_}
 use mathlib.Core.Logic.{_⊎_, inl, inr, ⊎-elim}
 use mathlib.Core.List.{List}
 use native.Mathlib.Omega.{arith}
-use lib.Bits.{bitAnd, and-le-l}
+use native.Mathlib.Decide.{ℕ-discrete}
+use lib.Bits.{bitAnd, bitOr, and-le-l}
 use lib.ListN.{getD}
 use Rattle.sets.specs.Mask.{slots, mem, Has, Within, insert, remove, full, Lowest}
-use Rattle.sets.proofs.BoolLaws.{not-both-ways, and-parts}
-use Rattle.sets.proofs.MaskLaws.{mem-lt, mem-and, mem-empty, mem-full, remove-le, remove-old, remove-cases, insert-new, insert-old, insert-cases, full-has}
+use Rattle.sets.proofs.BoolLaws.{not-both-ways, and-parts, or-left, or-right}
+use Rattle.sets.proofs.MaskLaws.{mem-lt, mem-and, mem-or, mem-empty, mem-full, remove-le, remove-old, remove-cases, insert-new, insert-old, insert-cases, full-has}
 use Rattle.orders.specs.Problem.{Problem}
 use Rattle.orders.specs.Step.{With, Below, Ready}
 use Rattle.orders.specs.Tables.{barAt, tabled}
-use Rattle.orders.specs.Walk.{Unbarred, Writers}
+use Rattle.orders.specs.Walk.{Unbarred, Readers, Writers}
 use Rattle.orders.proofs.FirstLaws.{Tri, below, same, above, tri}
 use Rattle.orders.proofs.StepLaws.{Same}
 
@@ -32,6 +34,24 @@ module _ (m : ℕ) (before bars : List ℕ) (s v : ℕ) where
   ready-unbarred r w l h x g = r .clear x w (r .event, l, g) h
 
 -- ---- the writers that have bars with v, among the first j
+
+pub readers-none : (bars : List ℕ) (v : ℕ) → Readers 0 bars v 0
+readers-none bars v w r l h = absurd (omega arith)
+
+pub readers-more : (bars : List ℕ) (v j c : ℕ) → Readers j bars v c → Readers (j + 1) bars v (bitOr c (barAt bars v j))
+readers-more bars v j c have w r l h = mem-or c (barAt bars v j) r ∙ go (ℕ-discrete w j)
+  where
+    go : Dec (w ≡ j) → (mem c r || mem (barAt bars v j) r) ≡ true
+    go (yes e) = or-right (mem c r) (mem (barAt bars v j) r) (subst (λ (i : ℕ). Has (barAt bars v i) r) e h)
+    go (no e) = or-left (mem c r) (mem (barAt bars v j) r) (have w r (omega (arith, e)) h)
+
+-- without a reader there is no writer
+pub writers-empty : (m : ℕ) (bars : List ℕ) (v c : ℕ) → m ≤ slots → Readers slots bars v c → c ≡ 0 → Writers m bars v 0
+writers-empty m bars v c few have z =
+    record {
+      only = λ w h. absurd (not-both-ways h (mem-empty w));
+      all = λ w r l h. absurd (not-both-ways (have w r (omega arith) h) (ap (λ (i : ℕ). mem i r) z ∙ mem-empty r));
+    }
 
 pub writers-none : (bars : List ℕ) (v : ℕ) → Writers 0 bars v 0
 writers-none bars v = record { only = λ w h. absurd (not-both-ways h (mem-empty w)); all = λ w r l h. absurd (omega arith) }

@@ -2,6 +2,7 @@
 -- up in the table by its members from k up, the events that are no inits. No public contract cites this file.
 -- Laws: proofs/TablesLaws.antt, StandLaws.antt, SeekLaws.antt, TallyLaws.antt, AnswerLaws.antt. Assumes nothing.
 --     Unbarred m bars s v          with the events of s placed, no bar forbids to place v
+--     Readers m bars v c           c has every r that has a bar (r, w, v) with w below m
 --     Writers m bars v c           c has every w below m that has a bar (r, w, v), and nothing from m up
 --     Gathered m bars writers      writers[v] is such a set, for each v
 --     isSeen k table s e           whether the table marks the set s with e
@@ -28,6 +29,9 @@ use Rattle.orders.specs.Reachable.{CountIs}
 
 abbrev pub Unbarred : ℕ → List ℕ → ℕ → ℕ → Type 0
 Unbarred m bars s v = (w : ℕ) → w < m → Has s w → Within (barAt bars v w) s
+
+abbrev pub Readers : ℕ → List ℕ → ℕ → ℕ → Type 0
+Readers m bars v c = (w r : ℕ) → w < m → Has (barAt bars v w) r → Has c r
 
 pub record Writers (m : ℕ) (bars : List ℕ) (v c : ℕ) : Type 0 where
   pub only : (w : ℕ) → Has c w → w < m

@@ -14,7 +14,7 @@ ghost use Rattle.orders.specs.Step.{Ready};
 ghost use Rattle.orders.specs.Tables.{tabled};
 ghost use Rattle.orders.specs.Answer.{Fits, Told, Answered};
 ghost use Rattle.orders.specs.Reachable.{Tallied};
-ghost use Rattle.orders.specs.Walk.{Unbarred, Writers, Gathered, Tried, NextIs, Starting, Entered, Walked, Counting, Searched};
+ghost use Rattle.orders.specs.Walk.{Readers, Unbarred, Writers, Gathered, Tried, NextIs, Starting, Entered, Walked, Counting, Searched};
 use sets::SLOTS;
 
 // How many masks of bars there are: one for each v and w.
@@ -22,11 +22,26 @@ const PAIRS: usize = 1024;
 
 // ---- which event can be placed
 
-// The writers that have bars with v among the first m events.
+// The readers that have bars with v. All slots are looked at, so that the machine takes several at once.
+fn readers_of(bars: &[u32; PAIRS], v: usize) -> u32
+    requires { ⌜ v < slots ⌝ }
+    ensures { λ r. ⌜ Readers slots (now (bars .entry)) v r ⌝ }
+{
+    let mut c = 0;
+    for w in 0..SLOTS {
+        c = c | bars[v * SLOTS + w];
+    }
+    c
+}
+
+// The writers that have bars with v among the first m events. Most events have no bars.
 fn writers_of(m: usize, bars: &[u32; PAIRS], v: usize) -> u32
     requires { ⌜ (m ≤ slots) × (v < m) ⌝ }
     ensures { λ r. ⌜ Writers m (now (bars .entry)) v r ⌝ }
 {
+    if readers_of(bars, v) == 0 {
+        return 0;
+    }
     let mut c = 0;
     for w in 0..m {
         if bars[v * SLOTS + w] != 0 {

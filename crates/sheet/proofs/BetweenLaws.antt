@@ -30,7 +30,7 @@ use Rattle.sheet.specs.Parse.{State, refused, placeOf, blank, eventFault
 use Rattle.sheet.specs.Handed.{spaced, eventAt, rowAt, pairAt, eventsOn, rowsOn, pairsOn, eventsIn, execution, blankSheet, blankPlaces}
 use Rattle.sheet.specs.Between.{view, Counted, Between, Ready, Advanced, withHead, withEvent, withRow, withPair, Through}
 use Rattle.sheet.proofs.HandedLaws.{spaced-more, others-count, inits-fit}
-use Rattle.sheet.proofs.ParseLaws.{no-fault, no-fault-non, inside, was-none, was-2, was-3, was-4, event-clean, row-length, pair-length, at-start, at-end, at-fault, at-next}
+use Rattle.sheet.proofs.ParseLaws.{no-fault, no-fault-non, inside, value-length, was-none, was-2, was-3, was-4, event-clean, row-length, pair-length, at-start, at-end, at-fault, at-next}
 
 -- ---- lists, one thing more
 
@@ -122,7 +122,7 @@ room-other events agent r e = ltb-true _ _ (rw e at r)
 
 pub counted-of : (s : List ℕ) (p last : ℕ) (x : Sheet) (at : List ℕ) → Between s p last x at → Counted s x at
 counted-of s p last x at b =
-    record { room = let z = b .size in let i = b .few-inits in let o = b .few-others in omega arith; inits = b .inits }
+    record { room = let z = b .size in let i = b .few-inits in let o = b .few-others in omega arith; inits = b .inits; held = b .held; rows-held = b .rows-held }
 
 module _ (s : List ℕ) (p last : ℕ) (x : Sheet) (at : List ℕ) (r : Ready s p last x at) where
   abbrev b : Between s p last x at
@@ -163,6 +163,8 @@ module _ (s : List ℕ) (p last : ℕ) (x : Sheet) (at : List ℕ) (r : Ready s 
               places = λ i l. absurd (omega arith);
               rows-at = λ _. f;
               pairs-at = λ _. f;
+              held = λ i l. absurd (omega arith);
+              rows-held = λ j l. absurd (omega arith);
             };
         seen = simp e (state-path 1 (headOf (valueAt s p)) (take-none (x .events) at n) (events-none s _ (x .events) at n) (rows-none s _ _ (x .rows) o) (pairs-none s _ (x .pairs) q));
       }
@@ -196,6 +198,21 @@ module _ (s : List ℕ) (p last : ℕ) (x : Sheet) (at : List ℕ) (r : Ready s 
   pub event-here : tagAt s p ≡ 2 → x .events < length at
   event-here e = let k = counts e .0 in let z = b .size in omega arith
 
+  split : (i n : ℕ) → i < n + 1 → (i ≡ n) ⊎ (i < n)
+  split i n j = eq-or-lt-of-le (omega arith)
+
+  -- as long, at a place that is said another way
+  long-at : {k q m : ℕ} → q ≡ m → k ≤ length (valueAt s q) → k ≤ length (valueAt s m)
+  long-at {k} e h = subst (λ (q : ℕ). k ≤ length (valueAt s q)) e h
+
+  event-long : tagAt s p ≡ 2 → 5 ≤ length (valueAt s p)
+  unfolding eventBytes
+  event-long e = let l = event-length (x .head) (eventsIn s x at) (valueAt s p) (event-clean s p st (r .clean) e) in omega arith
+
+  row-long : tagAt s p ≡ 3 → 3 ≤ length (valueAt s p)
+  unfolding rowBytes
+  row-long e = let l = row-length s p st (r .clean) e in let v = value-length s p st (r .clean) in omega arith
+
   pub event-taken : tagAt s p ≡ 2 → Advanced s p last x at (withEvent x agent next) (set at (x .events) p)
   unfolding after taken inits isInit rowsOn pairsOn spaced
   event-taken e =
@@ -227,12 +244,14 @@ module _ (s : List ℕ) (p last : ℕ) (x : Sheet) (at : List ℕ) (r : Ready s 
                   (split i (x .events) j);
               rows-at = λ _. place-next s p (suc (x .events)) _ here (omega arith);
               pairs-at = λ _. place-next s p (suc (x .events)) _ here (omega arith);
+              held = λ i j. ⊎-elim
+                  (λ q. long-at (sym (ap (λ (m : ℕ). getD (set at (x .events) p) m 0) q ∙ getD-set-same at (x .events) p 0 l)) (event-long e))
+                  (λ q. long-at (sym (getD-set-other at (x .events) i p 0 (λ t. omega arith))) (b .held i q))
+                  (split i (x .events) j);
+              rows-held = λ j l. absurd (omega arith);
             };
         seen = simp e (state-path 2 (x .head) (places-more at (x .events) p l) more (rows-none s _ _ (x .rows) o) (pairs-none s _ (x .pairs) q));
       }
-    where
-      split : (i n : ℕ) → i < n + 1 → (i ≡ n) ⊎ (i < n)
-      split i n j = eq-or-lt-of-le (omega arith)
 
   pub row-few : tagAt s p ≡ 3 → x .rows < maxBytes
   unfolding rowBytes
@@ -271,6 +290,11 @@ module _ (s : List ℕ) (p last : ℕ) (x : Sheet) (at : List ℕ) (r : Ready s 
               places = b .places;
               rows-at = λ _. b .rows-at (omega arith);
               pairs-at = λ _. place-next s p (suc (x .events + x .rows + x .pairs)) _ here (omega arith);
+              held = b .held;
+              rows-held = λ i j. ⊎-elim
+                  (λ q. long-at (sym (ap (λ (m : ℕ). x .«rows_at» + m * rowGap (x .head .edition)) q ∙ o)) (row-long e))
+                  (λ q. b .rows-held i q)
+                  (split i (x .rows) j);
             };
         seen = simp e (state-path 3 (x .head) refl refl (spaced-more (rowAt s) (rowGap (x .head .edition)) (x .«rows_at») (x .rows) p o) (pairs-none s _ (x .pairs) q));
       }
@@ -300,6 +324,8 @@ module _ (s : List ℕ) (p last : ℕ) (x : Sheet) (at : List ℕ) (r : Ready s 
               places = b .places;
               rows-at = λ _. b .rows-at (omega arith);
               pairs-at = λ _. b .pairs-at (omega arith);
+              held = b .held;
+              rows-held = b .rows-held;
             };
         seen = simp e (state-path 4 (x .head) refl refl refl (spaced-more (pairAt s) pairGap (x .«pairs_at») (x .pairs) p o));
       }
@@ -325,6 +351,8 @@ between-start s =
       places = λ i l. absurd (omega arith);
       rows-at = λ t. absurd (omega arith);
       pairs-at = λ t. absurd (omega arith);
+      held = λ i l. absurd (omega arith);
+      rows-held = λ j l. absurd (omega arith);
     }
 
 -- the loop's invariant: the whole answer is the answer from here, with fuel enough

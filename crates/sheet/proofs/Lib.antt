@@ -1,4 +1,5 @@
 pub mod HandedLaws
+pub mod HeldLaws
 pub mod ParseLaws
 pub mod BetweenLaws
 pub mod CompleteLaws

@@ -1,5 +1,6 @@
 -- What the reader keeps between two fields, and what it means: the contracts of its own functions, no part of what it promises.
 --     view                          the state of specs/Parse.antt that the last tag, the counts and the places stand for
+--     EventsHeld, RowsHeld          the values of the events and rows so far are as long as what is read of them
 --     Counted, Between              what holds of the counts and places at place p
 --     Ready, Advanced               a field without a fault is at hand; it has been taken
 --     Scanned                       what is known when the fields are through
@@ -13,7 +14,7 @@ use lib.ListN.{length, getD, take, drop, set, replicate}
 use Rattle.format.specs.declared.Head.{Head}
 use Rattle.format.specs.Limits.{maxBytes, maxInits, maxOthers, slots}
 use Rattle.format.specs.Execution.{Execution, inits}
-use Rattle.format.specs.Field.{tagAt, nextAt, fieldPlace}
+use Rattle.format.specs.Field.{tagAt, nextAt, valueAt, fieldPlace}
 use Rattle.format.specs.Layout.{rowGap, pairGap}
 use Rattle.sheet.specs.declared.Sheet.{Sheet}
 use Rattle.sheet.specs.declared.Reading.{Reading}
@@ -27,10 +28,20 @@ use Rattle.sheet.specs.Handed.{eventsIn, execution, blankSheet, blankPla
 abbrev pub view : List ℕ → ℕ → Sheet → List ℕ → State
 view s last x at = record { tag = last; places = take (x .events) at; got = execution s x at }
 
+-- agent, kind, mode, start, width
+abbrev pub EventsHeld : List ℕ → Sheet → List ℕ → Type 0
+EventsHeld s x at = (e : ℕ) → e < x .events → 5 ≤ length (valueAt s (getD at e 0))
+
+-- reader, address, writer
+abbrev pub RowsHeld : List ℕ → Sheet → Type 0
+RowsHeld s x = (j : ℕ) → j < x .rows → 3 ≤ length (valueAt s (x .«rows_at» + j * rowGap (x .head .edition)))
+
 -- the places hold the events so far, and their inits are counted
 pub record Counted (s : List ℕ) (x : Sheet) (at : List ℕ) : Type 0 where
   pub room : x .events ≤ length at
   pub inits : x .inits ≡ inits (eventsIn s x at)
+  pub held : EventsHeld s x at
+  pub rows-held : RowsHeld s x
 
 -- at place p, behind a field with the tag `last` (0 for none)
 pub record Between (s : List ℕ) (p last : ℕ) (x : Sheet) (at : List ℕ) : Type 0 where
@@ -49,6 +60,8 @@ pub record Between (s : List ℕ) (p last : ℕ) (x : Sheet) (at : List ℕ) : T
   pub places : (e : ℕ) → e < x .events → getD at e 0 ≡ fieldPlace s (suc e)
   pub rows-at : 0 < last → x .«rows_at» ≡ fieldPlace s (suc (x .events))
   pub pairs-at : 0 < last → x .«pairs_at» ≡ fieldPlace s (suc (x .events + x .rows))
+  pub held : EventsHeld s x at
+  pub rows-held : RowsHeld s x
 
 pub record Ready (s : List ℕ) (p last : ℕ) (x : Sheet) (at : List ℕ) : Type 0 where
   pub between : Between s p last x at

@@ -1,6 +1,7 @@
 // The content of a field: one function for each test of 01.
 use crate::Sheet;
 use crate::entry;
+use crate::held;
 use format::Head;
 use format::MAX_AGENTS;
 use format::MAX_INITS;
@@ -11,15 +12,13 @@ use format::Row;
 use format::Shape;
 use format::tests;
 ghost use mathlib.Core.Path.{_≡_};
-ghost use Prim.Native.Nat.{_≤_};
-ghost use lib.ListN.{length};
 ghost use Rattle.basis.specs.Test.{any};
 ghost use Rattle.format.specs.Limits.{slots};
 ghost use Rattle.format.specs.Event.{meets, readsAt, writesAt, isMarker};
 ghost use Rattle.format.specs.Execution.{eventNo, rowBelow, pairBelow};
 ghost use Rattle.sheet.specs.Content.{within, headFits, inside, initFormed, sized, kindFits, otherFormed, formed, standsFirst, eventFits, dataBytes, roomFor, joins, rowRises, rowFits, parts, pairRises, pairFits};
 ghost use Rattle.sheet.specs.Handed.{eventsIn, rowsIn, pairsIn};
-ghost use Rattle.sheet.specs.Between.{Counted};
+ghost use Rattle.sheet.specs.Between.{RowsHeld, Counted};
 
 pub(crate) fn within(lo: u8, hi: u8, n: u8) -> bool
     ensures { λ r. ⌜ r ≡ within lo hi n ⌝ }
@@ -90,14 +89,14 @@ fn formed(agents: u8, agent: u8, a: Shape) -> bool
 
 // Does one of the events so far overlap a?
 fn meets(s: &[u8], x: Sheet, at: &[u16], a: Shape) -> bool
-    requires { ⌜ x .events ≤ length (now at) ⌝ }
+    requires { ⌜ Counted (now s) x (now at) ⌝ }
     ensures { λ r. ⌜ r ≡ any (meets a) (eventsIn (now (s .entry)) x (now (at .entry))) ⌝ }
 {
     let n = x.events;
     let mut i: u8 = 0;
     while i < n {
         let p = at[i as usize];
-        let hit = tests::overlap(a, entry::shape_at(s, p));
+        let hit = tests::overlap(a, held::shape_at(s, p));
         if hit {
             return true;
         }
@@ -154,44 +153,44 @@ pub(crate) fn room_for(s: &[u8], x: Sheet, at: &[u16], agent: u8) -> bool
 
 // Does event e read byte n? No where there is no such event.
 fn reads_at(s: &[u8], x: Sheet, at: &[u16], e: u8, n: u8) -> bool
-    requires { ⌜ x .events ≤ length (now at) ⌝ }
+    requires { ⌜ Counted (now s) x (now at) ⌝ }
     ensures { λ r. ⌜ r ≡ readsAt (eventNo (eventsIn (now (s .entry)) x (now (at .entry))) e) n ⌝ }
 {
     let known = e < x.events;
     if !known {
         return false;
     }
-    let a = entry::shape_at(s, at[e as usize]);
+    let a = held::shape_at(s, at[e as usize]);
     tests::covers(a, n) & tests::reads(a)
 }
 
 fn writes_at(s: &[u8], x: Sheet, at: &[u16], e: u8, n: u8) -> bool
-    requires { ⌜ x .events ≤ length (now at) ⌝ }
+    requires { ⌜ Counted (now s) x (now at) ⌝ }
     ensures { λ r. ⌜ r ≡ writesAt (eventNo (eventsIn (now (s .entry)) x (now (at .entry))) e) n ⌝ }
 {
     let known = e < x.events;
     if !known {
         return false;
     }
-    let a = entry::shape_at(s, at[e as usize]);
+    let a = held::shape_at(s, at[e as usize]);
     tests::covers(a, n) & tests::writes(a)
 }
 
 fn is_marker(s: &[u8], x: Sheet, at: &[u16], e: u8) -> bool
-    requires { ⌜ x .events ≤ length (now at) ⌝ }
+    requires { ⌜ Counted (now s) x (now at) ⌝ }
     ensures { λ r. ⌜ r ≡ isMarker (eventNo (eventsIn (now (s .entry)) x (now (at .entry))) e) ⌝ }
 {
     let known = e < x.events;
     if !known {
         return false;
     }
-    let a = entry::shape_at(s, at[e as usize]);
+    let a = held::shape_at(s, at[e as usize]);
     a.kind == 4
 }
 
 // The agent of event e; 0 where there is no such event.
 fn agent_no(s: &[u8], x: Sheet, at: &[u16], e: u8) -> u8
-    requires { ⌜ x .events ≤ length (now at) ⌝ }
+    requires { ⌜ Counted (now s) x (now at) ⌝ }
     ensures { λ r. ⌜ r ≡ eventNo (eventsIn (now (s .entry)) x (now (at .entry))) e .agent ⌝ }
 {
     let known = e < x.events;
@@ -208,17 +207,18 @@ fn row_below(q: Row, r: Row) -> bool
 }
 
 fn row_rises(s: &[u8], x: Sheet, r: Row) -> bool
+    requires { ⌜ RowsHeld (now s) x ⌝ }
     ensures { λ y. ⌜ y ≡ rowRises (rowsIn (now (s .entry)) x) r ⌝ }
 {
     let n = x.rows;
     if n == 0 {
         return true;
     }
-    row_below(entry::row_no(s, x, n - 1), r)
+    row_below(held::row_no(s, x, n - 1), r)
 }
 
 pub(crate) fn row_fits(s: &[u8], x: Sheet, at: &[u16], r: Row) -> bool
-    requires { ⌜ x .events ≤ length (now at) ⌝ }
+    requires { ⌜ Counted (now s) x (now at) ⌝ }
     ensures { λ y. ⌜ y ≡ rowFits (eventsIn (now (s .entry)) x (now (at .entry))) (rowsIn (now (s .entry)) x) r ⌝ }
 {
     let joined = reads_at(s, x, at, r.reader, r.address)
@@ -243,7 +243,7 @@ fn pair_rises(s: &[u8], x: Sheet, p: Pair) -> bool
 }
 
 pub(crate) fn pair_fits(s: &[u8], x: Sheet, at: &[u16], p: Pair) -> bool
-    requires { ⌜ x .events ≤ length (now at) ⌝ }
+    requires { ⌜ Counted (now s) x (now at) ⌝ }
     ensures { λ y. ⌜ y ≡ pairFits (eventsIn (now (s .entry)) x (now (at .entry))) (pairsIn (now (s .entry)) x) p ⌝ }
 {
     let apart = !(agent_no(s, x, at, p.first) == agent_no(s, x, at, p.second));

@@ -5,8 +5,6 @@ use format::MAX_PAIRS;
 use format::field;
 use format::layout;
 ghost use mathlib.Core.Path.{_≡_};
-ghost use Prim.Native.Nat.{_≤_};
-ghost use lib.ListN.{length};
 ghost use Rattle.sheet.specs.Parse.{placeOf, allowed, headFault, eventFault, rowFault, pairFault, valueFault, faultAt};
 ghost use Rattle.sheet.specs.Handed.{eventsIn, rowsIn, pairsIn, execution};
 ghost use Rattle.sheet.specs.Between.{view, Counted};
@@ -71,7 +69,7 @@ fn event_fault(s: &[u8], x: Sheet, at: &[u16], v: &[u8]) -> u8
 }
 
 fn row_fault(s: &[u8], x: Sheet, at: &[u16], v: &[u8]) -> u8
-    requires { ⌜ x .events ≤ length (now at) ⌝ }
+    requires { ⌜ Counted (now s) x (now at) ⌝ }
     ensures { λ r. ⌜ r ≡ rowFault (x .head) (eventsIn (now (s .entry)) x (now (at .entry))) (rowsIn (now (s .entry)) x) (now (v .entry)) ⌝ }
 {
     let long = v.len() == layout::row_bytes(x.head.edition) as usize;
@@ -86,7 +84,7 @@ fn row_fault(s: &[u8], x: Sheet, at: &[u16], v: &[u8]) -> u8
 }
 
 fn pair_fault(s: &[u8], x: Sheet, at: &[u16], v: &[u8]) -> u8
-    requires { ⌜ x .events ≤ length (now at) ⌝ }
+    requires { ⌜ Counted (now s) x (now at) ⌝ }
     ensures { λ r. ⌜ r ≡ pairFault (eventsIn (now (s .entry)) x (now (at .entry))) (pairsIn (now (s .entry)) x) (now (v .entry)) ⌝ }
 {
     let long = v.len() == 2;

@@ -4,6 +4,7 @@ use format::Head;
 mod content;
 pub mod entry;
 mod fault;
+mod held;
 pub mod reader;
 
 // What a sheet holds: its head, counts, and the places of the first row and the first pair.

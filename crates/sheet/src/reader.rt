@@ -3,8 +3,8 @@ use crate::Outcome;
 use crate::Reading;
 use crate::Scan;
 use crate::Sheet;
-use crate::entry;
 use crate::fault;
+use crate::held;
 use format::Head;
 use format::MAX_BYTES;
 use format::Row;
@@ -22,7 +22,7 @@ ghost use Rattle.format.specs.Event.{readsSome};
 ghost use Rattle.format.specs.Field.{nextAt};
 ghost use Rattle.sheet.specs.Parse.{isRow, lacks, lowestLacking, completed, finish};
 ghost use Rattle.sheet.specs.Handed.{eventsIn, rowsIn, execution, eventAt, Handed};
-ghost use Rattle.sheet.specs.Between.{view, Counted, Between, Ready, Advanced, withHead, withEvent, withRow, withPair, Through, Scanned, parsedOf, refusal};
+ghost use Rattle.sheet.specs.Between.{view, RowsHeld, Counted, Between, Ready, Advanced, withHead, withEvent, withRow, withPair, Through, Scanned, parsedOf, refusal};
 
 // ---- the counts behind a field
 
@@ -172,14 +172,14 @@ fn fields(s: &[u8], at: &mut [u16]) -> Scan
 
 // Does some event read?
 fn some_read(s: &[u8], x: Sheet, at: &[u16]) -> bool
-    requires { ⌜ x .events ≤ length (now at) ⌝ }
+    requires { ⌜ Counted (now s) x (now at) ⌝ }
     ensures { λ r. ⌜ r ≡ any readsSome (eventsIn (now (s .entry)) x (now (at .entry))) ⌝ }
 {
     let n = x.events;
     let mut i: u8 = 0;
     while i < n {
         let p = at[i as usize];
-        let hit = tests::reads(entry::shape_at(s, p));
+        let hit = tests::reads(held::shape_at(s, p));
         if hit {
             return true;
         }
@@ -196,17 +196,18 @@ fn is_row(r: Row, e: u8, n: u16) -> bool
 
 // Has byte n of event e a row? The row numbered `hint` is looked at first: in a whole sheet it is the one.
 fn has_row(s: &[u8], x: Sheet, e: u8, n: u16, hint: u16) -> bool
+    requires { ⌜ RowsHeld (now s) x ⌝ }
     ensures { λ r. ⌜ r ≡ any (isRow e n) (rowsIn (now (s .entry)) x) ⌝ }
 {
     let rows = x.rows;
     if hint < rows {
-        if is_row(entry::row_no(s, x, hint), e, n) {
+        if is_row(held::row_no(s, x, hint), e, n) {
             return true;
         }
     }
     let mut j: u16 = 0;
     while j < rows {
-        let hit = is_row(entry::row_no(s, x, j), e, n);
+        let hit = is_row(held::row_no(s, x, j), e, n);
         if hit {
             return true;
         }
@@ -217,6 +218,7 @@ fn has_row(s: &[u8], x: Sheet, e: u8, n: u16, hint: u16) -> bool
 
 // Is one of the bytes from a start on, as many as a width, without a row of event e?
 fn lacks_from(s: &[u8], x: Sheet, e: u8, start: u8, width: u8, hint: u16) -> bool
+    requires { ⌜ RowsHeld (now s) x ⌝ }
     ensures { λ r. ⌜ r ≡ any (λ (n : ℕ). non (any (isRow e n) (rowsIn (now (s .entry)) x))) (from start width) ⌝ }
 {
     let mut i: u8 = 0;
@@ -238,6 +240,7 @@ fn lacks_from(s: &[u8], x: Sheet, e: u8, start: u8, width: u8, hint: u16) -> boo
 
 // Has event e, of shape a, a read byte without a row?
 fn lacks(s: &[u8], x: Sheet, e: u8, a: Shape, hint: u16) -> bool
+    requires { ⌜ RowsHeld (now s) x ⌝ }
     ensures { λ r. ⌜ r ≡ (reads a and any (λ (n : ℕ). non (any (isRow e n) (rowsIn (now (s .entry)) x))) (from (a .start) (a .width))) ⌝ }
 {
     let seen = tests::reads(a);
@@ -257,7 +260,7 @@ fn past(hint: u16, a: Shape) -> u16 {
 
 // 11 at the lowest event that has a read byte without a row; else the sheet is whole.
 fn complete(s: &[u8], last: u8, x: Sheet, at: &[u16]) -> Reading
-    requires { ⌜ x .events ≤ length (now at) ⌝ }
+    requires { ⌜ Counted (now s) x (now at) ⌝ }
     ensures { λ r. ⌜ parsedOf r (execution (now (s .entry)) x (now (at .entry))) ≡ completed (view (now (s .entry)) last x (now (at .entry))) (lowestLacking (execution (now (s .entry)) x (now (at .entry)))) ⌝ }
 {
     let n = x.events;
@@ -265,7 +268,7 @@ fn complete(s: &[u8], last: u8, x: Sheet, at: &[u16]) -> Reading
     let mut i: u8 = 0;
     while i < n {
         let p = at[i as usize];
-        let a = entry::shape_at(s, p);
+        let a = held::shape_at(s, p);
         let bad = lacks(s, x, i, a, hint);
         if bad {
             return Reading::Refused(11, fault::place_of(11, p));

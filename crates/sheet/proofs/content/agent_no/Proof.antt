@@ -1,6 +1,4 @@
 -- `sheet::content::agent_no` meets its contract: an event's first byte, and 0 where there is none. Assumes nothing.
--- `sheet::content::agent_no` meets its contract: an event's first byte, and 0 where there is none. Assumes nothing.
--- `sheet::content::agent_no` meets its contract: an event's first byte, and 0 where there is none. Assumes nothing.
 use mathlib.Core.Path.{sym, _∙_}
 use denote.Ref.{now}
 use native.Mathlib.Omega.{arith}
@@ -20,7 +18,7 @@ mul-agent-at c = search needs
 
 -- src/content.rt:196:24
 shared-slice-read-agent-at : tie.Need-shared-slice-read-agent-at
-shared-slice-read-agent-at c = omega (arith, c .before .before .before .before .before .pre, ltb-true (c .before .before .before .before .before .args .e) (c .before .before .before .before .before .args .x .events) (not-false _ (c .before .if1 .left)))
+shared-slice-read-agent-at c = omega (arith, c .before .before .before .before .before .pre .room, ltb-true (c .before .before .before .before .before .args .e) (c .before .before .before .before .before .args .x .events) (not-false _ (c .before .if1 .left)))
 
 -- src/content.rt:196:5
 agent-at-requires : tie.Need-agent-at-requires
@@ -28,7 +26,7 @@ agent-at-requires c κs = search needs
 
 -- src/content.rt:188:1
 returns-2 : tie.Need-returns-2
-returns-2 c = c .agent-at .ensures ∙ sym (agent-at (now (c .before .before .before .before .before .before .args .s)) (c .before .before .before .before .before .before .args .x .head .edition) (c .before .before .before .before .before .before .args .x .events) (now (c .before .before .before .before .before .before .args .at)) (c .before .before .before .before .before .before .args .e) (ltb-true _ _ (not-false _ (c .before .before .if1 .left))) (c .before .before .before .before .before .before .pre))
+returns-2 c = c .agent-at .ensures ∙ sym (agent-at (now (c .before .before .before .before .before .before .args .s)) (c .before .before .before .before .before .before .args .x .head .edition) (c .before .before .before .before .before .before .args .x .events) (now (c .before .before .before .before .before .before .args .at)) (c .before .before .before .before .before .before .args .e) (ltb-true _ _ (not-false _ (c .before .before .if1 .left))) (c .before .before .before .before .before .before .pre .room))
 
 pub agent-no-spec : {M : Type 1} → statement M
 agent-no-spec =

@@ -1,6 +1,4 @@
 -- `sheet::content::is_marker` meets its contract: an event's kind, and no where there is none. Assumes nothing.
--- `sheet::content::is_marker` meets its contract: an event's kind, and no where there is none. Assumes nothing.
--- `sheet::content::is_marker` meets its contract: an event's kind, and no where there is none. Assumes nothing.
 use mathlib.Core.Path.{sym, ap, _∙_}
 use denote.Ref.{now}
 use native.Mathlib.Omega.{arith}
@@ -21,16 +19,16 @@ mul-shape-at c = search needs
 
 -- src/content.rt:183:32
 shared-slice-read-shape-at : tie.Need-shared-slice-read-shape-at
-shared-slice-read-shape-at c = omega (arith, c .before .before .before .before .before .pre, ltb-true (c .before .before .before .before .before .args .e) (c .before .before .before .before .before .args .x .events) (not-false _ (c .before .if1 .left)))
+shared-slice-read-shape-at c = omega (arith, c .before .before .before .before .before .pre .room, ltb-true (c .before .before .before .before .before .args .e) (c .before .before .before .before .before .args .x .events) (not-false _ (c .before .if1 .left)))
 
 -- src/content.rt:183:9
 shape-at-requires : tie.Need-shape-at-requires
-shape-at-requires c κs = search needs
+shape-at-requires c κs = c .before .before .before .before .before .pre .held _ (ltb-true _ _ (not-false _ (c .before .if1 .left)))
 
 -- src/content.rt:175:1
 returns-2 : tie.Need-returns-2
 unfolding marks
-returns-2 c = ap marks (c .before .shape-at .ensures) ∙ sym (isMarker-at (now (c .before .before .before .before .before .before .before .args .s)) (c .before .before .before .before .before .before .before .args .x .head .edition) (c .before .before .before .before .before .before .before .args .x .events) (now (c .before .before .before .before .before .before .before .args .at)) (c .before .before .before .before .before .before .before .args .e) (ltb-true _ _ (not-false _ (c .before .before .before .if1 .left))) (c .before .before .before .before .before .before .before .pre))
+returns-2 c = ap marks (c .before .shape-at .ensures) ∙ sym (isMarker-at (now (c .before .before .before .before .before .before .before .args .s)) (c .before .before .before .before .before .before .before .args .x .head .edition) (c .before .before .before .before .before .before .before .args .x .events) (now (c .before .before .before .before .before .before .before .args .at)) (c .before .before .before .before .before .before .before .args .e) (ltb-true _ _ (not-false _ (c .before .before .before .if1 .left))) (c .before .before .before .before .before .before .before .pre .room))
 
 pub is-marker-spec : {M : Type 1} → statement M
 is-marker-spec =

@@ -1,6 +1,4 @@
 -- `sheet::content::reads_at` meets its contract: an event's one access, and no where there is none. Assumes nothing.
--- `sheet::content::reads_at` meets its contract: an event's one access, and no where there is none. Assumes nothing.
--- `sheet::content::reads_at` meets its contract: an event's one access, and no where there is none. Assumes nothing.
 use mathlib.Core.Path.{sym, ap, _∙_}
 use denote.Ref.{now}
 use native.Mathlib.Omega.{arith}
@@ -21,11 +19,11 @@ mul-shape-at c = search needs
 
 -- src/content.rt:159:32
 shared-slice-read-shape-at : tie.Need-shared-slice-read-shape-at
-shared-slice-read-shape-at c = omega (arith, c .before .before .before .before .before .pre, ltb-true (c .before .before .before .before .before .args .e) (c .before .before .before .before .before .args .x .events) (not-false _ (c .before .if1 .left)))
+shared-slice-read-shape-at c = omega (arith, c .before .before .before .before .before .pre .room, ltb-true (c .before .before .before .before .before .args .e) (c .before .before .before .before .before .args .x .events) (not-false _ (c .before .if1 .left)))
 
 -- src/content.rt:159:9
 shape-at-requires : tie.Need-shape-at-requires
-shape-at-requires c κs = search needs
+shape-at-requires c κs = c .before .before .before .before .before .pre .held _ (ltb-true _ _ (not-false _ (c .before .if1 .left)))
 
 -- src/content.rt:160:5
 covers-requires : tie.Need-covers-requires
@@ -38,7 +36,7 @@ reads-requires c κs = search needs
 -- src/content.rt:151:1
 returns-2 : tie.Need-returns-2
 unfolding _and_
-returns-2 c = rw (c .reads .ensures, c .before .covers .ensures, c .before .before .shape-at .ensures) (sym (readsAt-at (now (c .before .before .before .before .before .before .before .before .args .s)) (c .before .before .before .before .before .before .before .before .args .x .head .edition) (c .before .before .before .before .before .before .before .before .args .x .events) (now (c .before .before .before .before .before .before .before .before .args .at)) (c .before .before .before .before .before .before .before .before .args .e) (ltb-true _ _ (not-false _ (c .before .before .before .before .if1 .left))) (c .before .before .before .before .before .before .before .before .pre) (c .before .before .before .before .before .before .before .before .args .n)))
+returns-2 c = rw (c .reads .ensures, c .before .covers .ensures, c .before .before .shape-at .ensures) (sym (readsAt-at (now (c .before .before .before .before .before .before .before .before .args .s)) (c .before .before .before .before .before .before .before .before .args .x .head .edition) (c .before .before .before .before .before .before .before .before .args .x .events) (now (c .before .before .before .before .before .before .before .before .args .at)) (c .before .before .before .before .before .before .before .before .args .e) (ltb-true _ _ (not-false _ (c .before .before .before .before .if1 .left))) (c .before .before .before .before .before .before .before .before .pre .room) (c .before .before .before .before .before .before .before .before .args .n)))
 
 pub reads-at-spec : {M : Type 1} → statement M
 reads-at-spec =

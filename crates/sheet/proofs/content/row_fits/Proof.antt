@@ -1,6 +1,4 @@
 -- `sheet::content::row_fits` meets its contract, test by test. Assumes nothing.
--- `sheet::content::row_fits` meets its contract, test by test. Assumes nothing.
--- `sheet::content::row_fits` meets its contract, test by test. Assumes nothing.
 use Rattle.basis.specs.Test.{_and_, non}
 use Rattle.sheet.specs.Content.{rowFits, joins}
 use borrow.Author.Needs.{needs}
@@ -17,7 +15,7 @@ writes-at-requires c κs = search needs
 
 -- src/content.rt:221:14
 row-rises-requires : tie.Need-row-rises-requires
-row-rises-requires c κs = search needs
+row-rises-requires c κs = c .before .before .before .before .before .pre .rows-held
 
 -- src/content.rt:215:1
 returns : tie.Need-returns

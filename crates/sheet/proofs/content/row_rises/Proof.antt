@@ -21,7 +21,7 @@ sub-row-no c = search needs
 
 -- src/content.rt:212:15
 row-no-requires : tie.Need-row-no-requires
-row-no-requires c κs = search needs
+row-no-requires c κs = c .before .before .pre _ (omega (arith, c .if1 .left))
 
 -- src/content.rt:212:5
 row-below-requires : tie.Need-row-below-requires

@@ -1,6 +1,4 @@
 -- `sheet::content::stands_first` meets its contract: all events are inits exactly when as many as there are. Assumes nothing.
--- `sheet::content::stands_first` meets its contract: all events are inits exactly when as many as there are. Assumes nothing.
--- `sheet::content::stands_first` meets its contract: all events are inits exactly when as many as there are. Assumes nothing.
 use mathlib.Core.Path.{sym, ap, _∙_}
 use denote.Ref.{now}
 use Rattle.basis.specs.Test.{_and_, non}
@@ -16,7 +14,7 @@ use Rattle.sheet.proofs.content.stands_first.Tie as tie
 
 -- src/content.rt:109:30
 meets-requires : tie.Need-meets-requires
-meets-requires c κs = c .before .before .before .pre .room
+meets-requires c κs = c .before .before .before .pre
 
 -- src/content.rt:105:1
 returns : tie.Need-returns

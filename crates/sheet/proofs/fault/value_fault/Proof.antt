@@ -15,11 +15,11 @@ event-fault-requires c κs = c .before .before .before .before .pre
 
 -- src/fault.rt:113:14
 row-fault-requires : tie.Need-row-fault-requires
-row-fault-requires c κs = c .before .before .before .before .pre .room
+row-fault-requires c κs = c .before .before .before .before .pre
 
 -- src/fault.rt:114:14
 pair-fault-requires : tie.Need-pair-fault-requires
-pair-fault-requires c κs = c .before .before .before .before .pre .room
+pair-fault-requires c κs = c .before .before .before .before .pre
 
 -- src/fault.rt:106:1
 returns : tie.Need-returns

@@ -34,15 +34,15 @@ mul-p c = search needs
 
 -- src/reader.rt:266:17
 shared-slice-read-p : tie.Need-shared-slice-read-p Inv-loop μ-loop
-shared-slice-read-p c = omega (arith, c .before .before .before .before .before .pre)
+shared-slice-read-p c = omega (arith, c .before .before .before .before .before .pre .room)
 
 -- src/reader.rt:267:13
 shape-at-requires : tie.Need-shape-at-requires Inv-loop μ-loop
-shape-at-requires c κs = search needs
+shape-at-requires c κs = c .before .before .before .before .before .pre .held _ (c .before .loop-test .taken)
 
 -- src/reader.rt:268:13
 lacks-requires : tie.Need-lacks-requires Inv-loop μ-loop
-lacks-requires c κs = search needs
+lacks-requires c κs = c .before .before .before .before .before .before .pre .rows-held
 
 -- src/reader.rt:270:41
 place-of-requires : tie.Need-place-of-requires Inv-loop μ-loop
@@ -52,8 +52,8 @@ place-of-requires c κs = search needs
 returns : tie.Need-returns Inv-loop μ-loop
 unfolding completed
 returns c = rw (c .place-of .ensures) (sym (ap (completed (view (now (c .before .before .before .before .before .before .before .before .before .args .s)) (c .before .before .before .before .before .before .before .before .before .args .last) (c .before .before .before .before .before .before .before .before .before .args .x) (now (c .before .before .before .before .before .before .before .before .before .args .at))))
-    (lacking-found (now (c .before .before .before .before .before .before .before .before .before .args .s)) (c .before .before .before .before .before .before .before .before .before .args .x) (now (c .before .before .before .before .before .before .before .before .before .args .at)) (c .before .before .before .before .before .before .before .before .before .pre) (c .before .before .before .before .before .before .loop .i) (c .before .before .before .before .before .before .loop .inv .1) (c .before .before .before .before .before .loop-test .taken)
-    (lacks-at (now (c .before .before .before .before .before .before .before .before .before .args .s)) (c .before .before .before .before .before .before .before .before .before .args .x) (now (c .before .before .before .before .before .before .before .before .before .args .at)) (c .before .before .before .before .before .before .before .before .before .pre) (c .before .before .before .before .before .before .loop .i) (c .before .before .before .before .before .loop-test .taken) ∙ sym (rw (c .before .before .before .shape-at .ensures) at (c .before .before .lacks .ensures)) ∙ c .before .if1 .taken))
+    (lacking-found (now (c .before .before .before .before .before .before .before .before .before .args .s)) (c .before .before .before .before .before .before .before .before .before .args .x) (now (c .before .before .before .before .before .before .before .before .before .args .at)) (c .before .before .before .before .before .before .before .before .before .pre .room) (c .before .before .before .before .before .before .loop .i) (c .before .before .before .before .before .before .loop .inv .1) (c .before .before .before .before .before .loop-test .taken)
+    (lacks-at (now (c .before .before .before .before .before .before .before .before .before .args .s)) (c .before .before .before .before .before .before .before .before .before .args .x) (now (c .before .before .before .before .before .before .before .before .before .args .at)) (c .before .before .before .before .before .before .before .before .before .pre .room) (c .before .before .before .before .before .before .loop .i) (c .before .before .before .before .before .loop-test .taken) ∙ sym (rw (c .before .before .before .shape-at .ensures) at (c .before .before .lacks .ensures)) ∙ c .before .if1 .taken))
     ∙ ap (λ q. refused 11 (placeOf 11 q)) (getD-take (c .before .before .before .before .before .before .before .before .before .args .x .events) (now (c .before .before .before .before .before .before .before .before .before .args .at)) (c .before .before .before .before .before .before .loop .i) 0 (c .before .before .before .before .before .loop-test .taken))))
 
 -- src/reader.rt:272:9
@@ -72,14 +72,14 @@ loop-less c = omega arith
 loop-again : tie.Need-loop-again Inv-loop μ-loop
 loop-again c = (
   omega arith,
-  lacking-more (now (c .before .before .before .before .before .before .before .before .before .args .s)) (c .before .before .before .before .before .before .before .before .before .args .x) (now (c .before .before .before .before .before .before .before .before .before .args .at)) (c .before .before .before .before .before .before .before .before .before .pre) (c .before .before .before .before .before .before .loop .i) (c .before .before .before .before .before .before .loop .inv .1) (c .before .before .before .before .before .loop-test .taken)
-      (lacks-at (now (c .before .before .before .before .before .before .before .before .before .args .s)) (c .before .before .before .before .before .before .before .before .before .args .x) (now (c .before .before .before .before .before .before .before .before .before .args .at)) (c .before .before .before .before .before .before .before .before .before .pre) (c .before .before .before .before .before .before .loop .i) (c .before .before .before .before .before .loop-test .taken) ∙ sym (rw (c .before .before .before .shape-at .ensures) at (c .before .before .lacks .ensures)) ∙ c .before .if1 .left),
+  lacking-more (now (c .before .before .before .before .before .before .before .before .before .args .s)) (c .before .before .before .before .before .before .before .before .before .args .x) (now (c .before .before .before .before .before .before .before .before .before .args .at)) (c .before .before .before .before .before .before .before .before .before .pre .room) (c .before .before .before .before .before .before .loop .i) (c .before .before .before .before .before .before .loop .inv .1) (c .before .before .before .before .before .loop-test .taken)
+      (lacks-at (now (c .before .before .before .before .before .before .before .before .before .args .s)) (c .before .before .before .before .before .before .before .before .before .args .x) (now (c .before .before .before .before .before .before .before .before .before .args .at)) (c .before .before .before .before .before .before .before .before .before .pre .room) (c .before .before .before .before .before .before .loop .i) (c .before .before .before .before .before .loop-test .taken) ∙ sym (rw (c .before .before .before .shape-at .ensures) at (c .before .before .lacks .ensures)) ∙ c .before .if1 .left),
 )
 
 -- src/reader.rt:258:1
 returns-2 : tie.Need-returns-2 Inv-loop μ-loop
 unfolding completed
-returns-2 c = sym (ap (completed (view (now (c .before .before .before .before .args .s)) (c .before .before .before .before .args .last) (c .before .before .before .before .args .x) (now (c .before .before .before .before .args .at)))) (lacking-none (now (c .before .before .before .before .args .s)) (c .before .before .before .before .args .x) (now (c .before .before .before .before .args .at)) (c .before .before .before .before .pre) (c .before .loop .i) (c .before .loop .inv .1) (c .loop-test .left)))
+returns-2 c = sym (ap (completed (view (now (c .before .before .before .before .args .s)) (c .before .before .before .before .args .last) (c .before .before .before .before .args .x) (now (c .before .before .before .before .args .at)))) (lacking-none (now (c .before .before .before .before .args .s)) (c .before .before .before .before .args .x) (now (c .before .before .before .before .args .at)) (c .before .before .before .before .pre .room) (c .before .loop .i) (c .before .loop .inv .1) (c .loop-test .left)))
 
 pub complete-spec : {M : Type 1} → statement M
 complete-spec =

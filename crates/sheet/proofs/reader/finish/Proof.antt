@@ -17,7 +17,7 @@ returns c = simp (c .if1 .taken)
 
 -- src/reader.rt:286:9
 some-read-requires : tie.Need-some-read-requires
-some-read-requires c κs = counted-of _ _ _ _ _ (c .before .before .before .pre .between) .room
+some-read-requires c κs = counted-of _ _ _ _ _ (c .before .before .before .pre .between)
 
 -- src/reader.rt:288:37
 cast-t9 : tie.Need-cast-t9
@@ -30,7 +30,7 @@ returns-2 c = simp (c .before .before .if1 .left, simp (c .before .some-read .en
 
 -- src/reader.rt:290:5
 complete-requires : tie.Need-complete-requires
-complete-requires c κs = counted-of _ _ _ _ _ (c .before .before .before .before .before .pre .between) .room
+complete-requires c κs = counted-of _ _ _ _ _ (c .before .before .before .before .before .pre .between)
 
 -- src/reader.rt:278:1
 returns-3 : tie.Need-returns-3

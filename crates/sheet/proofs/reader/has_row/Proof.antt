@@ -22,7 +22,7 @@ abbrev μ-loop : tie.MeasureT-loop
 
 -- src/reader.rt:202:19
 row-no-requires : tie.Need-row-no-requires Inv-loop μ-loop
-row-no-requires c κs = search needs
+row-no-requires c κs = c .before .before .pre _ (c .if1 .taken)
 
 -- src/reader.rt:202:12
 is-row-requires : tie.Need-is-row-requires Inv-loop μ-loop
@@ -40,7 +40,7 @@ loop-holds c = (omega arith, refl)
 
 -- src/reader.rt:208:26
 row-no-requires-2 : tie.Need-row-no-requires-2 Inv-loop μ-loop
-row-no-requires-2 c κs = search needs
+row-no-requires-2 c κs = c .before .before .before .before .pre _ (c .loop-test .taken)
 
 -- src/reader.rt:208:13
 is-row-requires-2 : tie.Need-is-row-requires-2 Inv-loop μ-loop

@@ -17,7 +17,7 @@ returns c = sym (and-fails (reads (c .before .before .before .args .a)) _ (sym (
 
 -- src/reader.rt:246:5
 lacks-from-requires : tie.Need-lacks-from-requires
-lacks-from-requires c κs = search needs
+lacks-from-requires c κs = c .before .before .before .pre
 
 -- src/reader.rt:239:1
 returns-2 : tie.Need-returns-2

@@ -53,7 +53,7 @@ cast-has-row-3 c = search needs
 
 -- src/reader.rt:223:13
 has-row-requires : tie.Need-has-row-requires Inv-loop μ-loop
-has-row-requires c κs = search needs
+has-row-requires c κs = c .before .before .before .pre
 
 -- src/reader.rt:231:13
 returns : tie.Need-returns Inv-loop μ-loop

@@ -34,11 +34,11 @@ mul-p c = search needs
 
 -- src/reader.rt:180:17
 shared-slice-read-p : tie.Need-shared-slice-read-p Inv-loop μ-loop
-shared-slice-read-p c = omega (arith, c .before .before .before .before .before .pre)
+shared-slice-read-p c = omega (arith, c .before .before .before .before .before .pre .room)
 
 -- src/reader.rt:181:32
 shape-at-requires : tie.Need-shape-at-requires Inv-loop μ-loop
-shape-at-requires c κs = search needs
+shape-at-requires c κs = c .before .before .before .before .before .pre .held _ (c .before .loop-test .taken)
 
 -- src/reader.rt:181:13
 reads-requires : tie.Need-reads-requires Inv-loop μ-loop
@@ -47,9 +47,9 @@ reads-requires c κs = search needs
 -- src/reader.rt:183:13
 returns : tie.Need-returns Inv-loop μ-loop
 unfolding eventNo
-returns c = let k = events-count (now (c .before .before .before .before .before .before .before .before .args .s)) (c .before .before .before .before .before .before .before .before .args .x .head .edition) (c .before .before .before .before .before .before .before .before .args .x .events) (now (c .before .before .before .before .before .before .before .before .args .at)) (c .before .before .before .before .before .before .before .before .pre) in
+returns c = let k = events-count (now (c .before .before .before .before .before .before .before .before .args .s)) (c .before .before .before .before .before .before .before .before .args .x .head .edition) (c .before .before .before .before .before .before .before .before .args .x .events) (now (c .before .before .before .before .before .before .before .before .args .at)) (c .before .before .before .before .before .before .before .before .pre .room) in
     any-found readsSome (eventsIn (now (c .before .before .before .before .before .before .before .before .args .s)) (c .before .before .before .before .before .before .before .before .args .x) (now (c .before .before .before .before .before .before .before .before .args .at))) (c .before .before .before .before .before .loop .i) nobody (c .before .before .before .before .before .loop .inv .1 (c .before .before .before .before .before .before .before .before .args .x .head .edition)) (rw k (c .before .before .before .before .loop-test .taken))
-    (readsSome-at (now (c .before .before .before .before .before .before .before .before .args .s)) (c .before .before .before .before .before .before .before .before .args .x .head .edition) (c .before .before .before .before .before .before .before .before .args .x .events) (now (c .before .before .before .before .before .before .before .before .args .at)) (c .before .before .before .before .before .loop .i) (c .before .before .before .before .loop-test .taken) (c .before .before .before .before .before .before .before .before .pre) ∙ sym (rw (c .before .before .shape-at .ensures) at (c .before .reads .ensures)) ∙ c .if1 .taken)
+    (readsSome-at (now (c .before .before .before .before .before .before .before .before .args .s)) (c .before .before .before .before .before .before .before .before .args .x .head .edition) (c .before .before .before .before .before .before .before .before .args .x .events) (now (c .before .before .before .before .before .before .before .before .args .at)) (c .before .before .before .before .before .loop .i) (c .before .before .before .before .loop-test .taken) (c .before .before .before .before .before .before .before .before .pre .room) ∙ sym (rw (c .before .before .shape-at .ensures) at (c .before .reads .ensures)) ∙ c .if1 .taken)
 
 -- src/reader.rt:185:9
 add-i : tie.Need-add-i Inv-loop μ-loop
@@ -64,14 +64,14 @@ loop-again : tie.Need-loop-again Inv-loop μ-loop
 unfolding eventNo
 loop-again c = (
   omega arith,
-  λ edition. let k = events-count (now (c .before .before .before .before .before .before .before .before .args .s)) edition (c .before .before .before .before .before .before .before .before .args .x .events) (now (c .before .before .before .before .before .before .before .before .args .at)) (c .before .before .before .before .before .before .before .before .pre) in
+  λ edition. let k = events-count (now (c .before .before .before .before .before .before .before .before .args .s)) edition (c .before .before .before .before .before .before .before .before .args .x .events) (now (c .before .before .before .before .before .before .before .before .args .at)) (c .before .before .before .before .before .before .before .before .pre .room) in
       any-more readsSome (eventsOn (now (c .before .before .before .before .before .before .before .before .args .s)) edition (c .before .before .before .before .before .before .before .before .args .x .events) (now (c .before .before .before .before .before .before .before .before .args .at))) (c .before .before .before .before .before .loop .i) nobody (c .before .before .before .before .before .loop .inv .1 edition) (rw k (c .before .before .before .before .loop-test .taken))
-      (readsSome-at (now (c .before .before .before .before .before .before .before .before .args .s)) edition (c .before .before .before .before .before .before .before .before .args .x .events) (now (c .before .before .before .before .before .before .before .before .args .at)) (c .before .before .before .before .before .loop .i) (c .before .before .before .before .loop-test .taken) (c .before .before .before .before .before .before .before .before .pre) ∙ sym (rw (c .before .before .shape-at .ensures) at (c .before .reads .ensures)) ∙ c .if1 .left),
+      (readsSome-at (now (c .before .before .before .before .before .before .before .before .args .s)) edition (c .before .before .before .before .before .before .before .before .args .x .events) (now (c .before .before .before .before .before .before .before .before .args .at)) (c .before .before .before .before .before .loop .i) (c .before .before .before .before .loop-test .taken) (c .before .before .before .before .before .before .before .before .pre .room) ∙ sym (rw (c .before .before .shape-at .ensures) at (c .before .reads .ensures)) ∙ c .if1 .left),
 )
 
 -- src/reader.rt:173:1
 returns-2 : tie.Need-returns-2 Inv-loop μ-loop
-returns-2 c = let k = events-count (now (c .before .before .before .before .args .s)) (c .before .before .before .before .args .x .head .edition) (c .before .before .before .before .args .x .events) (now (c .before .before .before .before .args .at)) (c .before .before .before .before .pre) in
+returns-2 c = let k = events-count (now (c .before .before .before .before .args .s)) (c .before .before .before .before .args .x .head .edition) (c .before .before .before .before .args .x .events) (now (c .before .before .before .before .args .at)) (c .before .before .before .before .pre .room) in
     any-none readsSome (eventsIn (now (c .before .before .before .before .args .s)) (c .before .before .before .before .args .x) (now (c .before .before .before .before .args .at))) (c .before .loop .i) (c .before .loop .inv .1 (c .before .before .before .before .args .x .head .edition)) (rw k (omega (arith, c .loop-test .left)))
 
 pub some-read-spec : {M : Type 1} → statement M

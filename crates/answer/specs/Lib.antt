@@ -6,3 +6,4 @@ pub mod Fit
 pub mod Read
 pub mod Examples
 pub mod Demands
+pub mod Rules

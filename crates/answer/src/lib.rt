@@ -19,6 +19,12 @@ pub enum Names {
     Nobody,
 }
 
+// What a rule finds: nothing, or its number and its names.
+pub enum Rule {
+    Kept,
+    Breach(u8, Names),
+}
+
 // Whether a consistent sheet has an unsettled pair, and the lowest.
 pub enum Settled {
     Orderly,

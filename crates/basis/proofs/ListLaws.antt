@@ -4,6 +4,7 @@
 --     from-length, from-at          the numbers from a start on
 --     last-at, snoc-split, each-snoc, two-snoc     a list with one entry more
 --     mem-getD, getD-mem            an entry of a list and its place
+--     each-elim, each-mem, each-id  an entry of a mapped list; mapped by the identity
 use mathlib.Core.Path.{_≡_, refl, sym, ap, _∙_, subst}
 use mathlib.Core.Logic.{_⊎_, inl, inr, ⊎-elim}
 use mathlib.Core.List.{List, [], _∷_, _++_, map, List·Memᴰ, List·Memᴰ·head, List·Memᴰ·tail}
@@ -12,7 +13,7 @@ use native.Mathlib.Omega.{arith}
 use lib.ListN.{length, getD, take, drop, length-drop, length-take, length-map, drop-of-length-le, length-append, List·getD-append, List·getD-eq-default}
 use lib.Seq.{take-all, take-nil, getD-take, getD-append-seam}
 use native.Mathlib.Nat.{eq-or-lt-of-le}
-use Rattle.basis.specs.Test.{from}
+use Rattle.basis.specs.Test.{each, from}
 
 pub part-short : (s : List ℕ) (a n : ℕ) → length s - a ≤ n → take (length s - a) (drop a s) ≡ take n (drop a s)
 part-short s a n h =
@@ -84,3 +85,20 @@ module _ {A : Type 0} where
   getD-mem d [] i h = absurd (omega arith)
   getD-mem d (a ∷ l) zero h = List·Memᴰ·head refl
   getD-mem d (a ∷ l) (suc i) h = List·Memᴰ·tail (getD-mem d l i (omega arith))
+
+-- ---- each
+
+pub each-elim : {A B : Type 0} (g : A → B) (l : List A) (p : B) → List·Memᴰ p (each g l) → (j : A) × (List·Memᴰ j l × (g j ≡ p))
+unfolding each
+each-elim g (i ∷ l) p (List·Memᴰ·head e) = (i, (List·Memᴰ·head refl, sym e))
+each-elim g (i ∷ l) p (List·Memᴰ·tail k) = let r = each-elim g l p k in (r .0, (List·Memᴰ·tail (r .1 .0), r .1 .1))
+
+pub each-mem : {A B : Type 0} (g : A → B) (l : List A) (j : A) → List·Memᴰ j l → List·Memᴰ (g j) (each g l)
+unfolding each
+each-mem g (i ∷ l) j (List·Memᴰ·head e) = List·Memᴰ·head (ap g e)
+each-mem g (i ∷ l) j (List·Memᴰ·tail k) = List·Memᴰ·tail (each-mem g l j k)
+
+pub each-id : {A : Type 0} (l : List A) → each (λ (a : A). a) l ≡ l
+unfolding each
+each-id [] = refl
+each-id (a ∷ l) = ap (λ (m : List _). a ∷ m) (each-id l)

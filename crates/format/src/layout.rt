@@ -4,14 +4,11 @@ use crate::Pair;
 use crate::Row;
 use crate::Shape;
 use crate::field;
-use crate::tests::covers;
-use crate::tests::reads;
 ghost use mathlib.Core.Path.{_≡_};
 ghost use lib.Dec.{eqb};
 ghost use Rattle.basis.specs.Test.{_and_, _or_};
-ghost use Rattle.format.specs.Event.{saw, wrote};
 ghost use Rattle.format.specs.Shape.{divides, tearOf};
-ghost use Rattle.format.specs.Layout.{headOf, eventBytes, agentOf, shapeOf, eventOf, rowBytes, rowOf, pairOf};
+ghost use Rattle.format.specs.Layout.{headOf, eventBytes, agentOf, shapeOf, rowBytes, rowOf, pairOf};
 
 // The bytes of an event's value before its data.
 pub fn event_bytes(edition: u8) -> u8
@@ -88,39 +85,5 @@ pub fn pair_of(v: &[u8]) -> Pair
     Pair {
         first: field::byte(v, 0),
         second: field::byte(v, 1),
-    }
-}
-
-// The byte that the event of a value saw at an address; 0 where it reads none.
-pub fn saw(edition: u8, v: &[u8], n: u8) -> u8
-    ensures { λ r. ⌜ r ≡ saw (eventOf edition (now (v .entry))) n ⌝ }
-{
-    let a = shape_of(v);
-    let held = covers(a, n);
-    if !held {
-        return 0;
-    }
-    let seen = reads(a);
-    if !seen {
-        return 0;
-    }
-    field::byte(v, event_bytes(edition) as usize + (n - a.start) as usize)
-}
-
-// The byte that it wrote there; 0 where it writes none.
-pub fn wrote(edition: u8, v: &[u8], n: u8) -> u8
-    ensures { λ r. ⌜ r ≡ wrote (eventOf edition (now (v .entry))) n ⌝ }
-{
-    let a = shape_of(v);
-    let kind = a.kind;
-    let held = covers(a, n);
-    if !held {
-        return 0;
-    }
-    let from = event_bytes(edition) as usize + (n - a.start) as usize;
-    match kind {
-        2 => field::byte(v, from),
-        3 => field::byte(v, from + a.width as usize),
-        _ => 0,
     }
 }

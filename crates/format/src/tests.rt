@@ -1,7 +1,7 @@
 // Tests of one access, and of two.
 use crate::Shape;
 ghost use mathlib.Core.Path.{_≡_};
-ghost use Rattle.format.specs.Shape.{reads, writes, covers, overlap, equal};
+ghost use Rattle.format.specs.Shape.{reads, writes, covers, overlap, equal, bothSc};
 
 pub fn reads(a: Shape) -> bool
     ensures { λ r. ⌜ r ≡ reads a ⌝ }
@@ -35,4 +35,11 @@ pub fn equal(a: Shape, b: Shape) -> bool
     ensures { λ r. ⌜ r ≡ equal a b ⌝ }
 {
     (a.start == b.start) & (a.width == b.width)
+}
+
+// Both sc with equal ranges.
+pub fn both_sc(a: Shape, b: Shape) -> bool
+    ensures { λ r. ⌜ r ≡ bothSc a b ⌝ }
+{
+    (a.mode == 2) & ((b.mode == 2) & equal(a, b))
 }

@@ -1,20 +1,19 @@
 -- The laws of the judge's first steps: refusals, buffers that are too short, a broken rule. Assumes nothing.
 --     refused-sheet, short-scratch, short-order     refusals
---     admits, given-of, unbroken-of                 what the next step starts from
---     broken-rule                                   21 to 25
-use mathlib.Core.Path.{_≡_, refl, sym, ap, _∙_, subst}
+--     inits-fit, admits                             what the buffers are held against; what is weighed
+--     broken-rule, unbroken-of                      21 to 25; what the last step starts from
+use mathlib.Core.Path.{_≡_, refl, sym, ap, _∙_}
 use mathlib.Core.Logic.{inl}
-use mathlib.Core.Bool.{Bool, true, false, cond}
 use mathlib.Core.List.{List}
-use mathlib.Core.Option.{Option, none, some}
 use Prim.Native.Nat.{ℕ, _-_, _<_, _≤_, min}
 use native.Mathlib.Omega.{arith}
 use borrow.Author.Tests.{lt-ltb, le-ltb}
-use lib.ListN.{length}
-use Rattle.format.specs.Execution.{Execution, inits, others}
+use lib.ListN.{length, replicate}
+use Rattle.format.specs.Execution.{Execution, others}
 use Rattle.sheet.specs.declared.Sheet.{Sheet}
-use Rattle.sheet.specs.Parse.{refused, whole, parse}
-use Rattle.sheet.specs.Handed.{execution, Laid, HandedWhole}
+use Rattle.sheet.specs.Parse.{refused, parse}
+use Rattle.sheet.specs.Handed.{execution, HandedWhole}
+use Rattle.sheet.specs.Promise.{WellFormed}
 use Rattle.sheet.proofs.HandedLaws.{events-count}
 use Rattle.sheet.proofs.PromiseLaws.{promise}
 use Rattle.sets.specs.Mask.{slots}
@@ -23,67 +22,99 @@ use Rattle.answer.specs.declared.Names.{Names}
 use Rattle.model.specs.Rules.{faulty, fault}
 use Rattle.model.specs.Judged.{needed, lent, admitted, JudgedRefused, JudgedBroken}
 use Rattle.model.proofs.OrderLaws.{inits-others}
-use Rattle.model.proofs.JudgedLaws.{whole-admitted}
-use Rattle.judge.specs.Tables.{Tabled, Given, hbOf, Ordered, Admits, Unbroken}
+use Rattle.model.proofs.JudgedLaws.{admitted-whole, whole-admitted}
+use Rattle.tables.specs.Tables.{columns, rowRoom, rowCells, pairRoom}
+use Rattle.before.specs.Before.{Ordered}
+use Rattle.lay.specs.Lay.{Layered}
+use Rattle.answer.specs.declared.Rule.{Rule}
+use Rattle.answer.specs.declared.Rule.the-variants.{Kept, Breach}
+use Rattle.rules.specs.Rules.{ruleIn}
+use Rattle.front.specs.Tabled.{hbOf, foundOf}
+use Rattle.front.proofs.SheetLaws.{sheet-held, sheet-rules}
+use Rattle.judge.specs.Admitted.{Admits, Unbroken}
 
 -- a sheet that the reader refuses
-pub refused-sheet : (s scratch order : List ℕ) (n p : ℕ) → parse s ≡ refused n p → JudgedRefused s scratch order n p scratch order
+pub refused-sheet : {s scratch order : List ℕ} {n p : ℕ} → parse s ≡ refused n p → JudgedRefused s scratch order n p scratch order
 unfolding admitted lent
-refused-sheet s scratch order n p e = record { says = rw e; scratch-kept = refl; order-kept = refl }
+refused-sheet e = record { says = rw e; scratch-kept = refl; order-kept = refl }
 
-module _ (s : List ℕ) (x : Sheet) (at scratch order : List ℕ) (h : HandedWhole s x at) where
+-- ---- the buffers
+
+module _ {s : List ℕ} {x : Sheet} {at : List ℕ} (h : HandedWhole s x at) where
   abbrev X : Execution
   X = execution s x at
 
   events : length (X .events) ≡ x .events
   events = let z = h .laid .size in let f = h .laid .few in events-count s (x .head .edition) (x .events) at (omega arith)
 
-  room : x .events - x .inits ≡ others (X .events)
-  room = let e = inits-others X in let i = h .laid .inits in let n = events in omega arith
-
   pub inits-fit : x .inits ≤ x .events
   inits-fit = let e = inits-others X in let i = h .laid .inits in let n = events in omega arith
 
   -- the bytes that the code asks for are those that 01 asks for
-  pub need-same : (n : ℕ) → n ≡ x .events - x .inits → bytesFor (min n slots) ≡ needed X
-  need-same n e =
+  need-same : {need : ℕ} → need ≡ bytesFor (min (x .events - x .inits) slots) → need ≡ needed X
+  need-same k =
       let f = h .laid .few in
-      let q : min n slots ≡ others (X .events) = let r = room in omega arith in
-      ap bytesFor q
+      let e = inits-others X in
+      let i = h .laid .inits in
+      let n = events in
+      let w : min (x .events - x .inits) slots ≡ others (X .events) = omega arith in
+      k ∙ ap bytesFor w
 
-  pub short-scratch : length scratch < needed X → JudgedRefused s scratch order 12 0 scratch order
-  unfolding admitted lent
-  short-scratch l = record { says = rw (h .says, lt-ltb (length scratch) (needed X) l); scratch-kept = refl; order-kept = refl }
+  module _ {need : ℕ} {scratch order : List ℕ} (k : need ≡ bytesFor (min (x .events - x .inits) slots)) where
+    pub short-scratch : length scratch < need → JudgedRefused s scratch order 12 0 scratch order
+    unfolding admitted lent
+    short-scratch l = record { says = rw (h .says, lt-ltb (length scratch) (needed X) (rw (need-same k) at l)); scratch-kept = refl; order-kept = refl }
 
-  pub short-order : needed X ≤ length scratch → length order < x .events → JudgedRefused s scratch order 13 0 scratch order
-  unfolding admitted lent
-  short-order k l =
-      record {
-        says = rw (h .says, le-ltb (length scratch) (needed X) k, lt-ltb (length order) (length (X .events)) (rw events l));
-        scratch-kept = refl;
-        order-kept = refl;
-      }
-
-  pub admits : needed X ≤ length scratch → x .events ≤ length order → Admits s x at scratch order
-  admits k l = record { says = h .says; laid = h .laid; scratch-fits = k; order-fits = rw events l }
-
-pub given-of : (s : List ℕ) (x : Sheet) (at t scratch order : List ℕ) → Admits s x at scratch order → Tabled (execution s x at) t → Given s x at t
-given-of s x at t scratch order a b = record { laid = a .laid; well = promise s (execution s x at) (a .says); tabled = b }
-
-module _ (s : List ℕ) (x : Sheet) (at t succ pred scratch order : List ℕ) (a : Admits s x at scratch order) (b : Tabled (execution s x at) t) where
-  module _ (o : Ordered (execution s x at) succ pred) where
-    pub unbroken-of : none ≡ fault (execution s x at) (hbOf succ) → Unbroken s x at t succ pred scratch order
-    unbroken-of e = record { admits = a; given = given-of s x at t scratch order a b; ordered = o; kept = sym e }
-
-    pub broken-rule : (n : ℕ) (names : Names) (scratch′ : List ℕ) → some (faulty n names) ≡ fault (execution s x at) (hbOf succ)
-        → scratch′ ≡ cleared (needed (execution s x at)) scratch → JudgedBroken s scratch order (faulty n names) scratch′ order
-    broken-rule n names scratch′ e c =
+    pub short-order : need ≤ length scratch → length order < x .events → JudgedRefused s scratch order 13 0 scratch order
+    unfolding admitted lent
+    short-order i l =
         record {
-          execution = execution s x at;
-          describes = whole-admitted s (length scratch) (length order) (execution s x at) (a .says) (a .scratch-fits) (a .order-fits);
-          hb = hbOf succ;
-          tests = o .tests;
-          breaks = inl (sym e);
-          scratch-cleared = c;
+          says = rw (h .says, le-ltb (length scratch) (needed X) (rw (need-same k) at i), lt-ltb (length order) (length (X .events)) (rw events l));
+          scratch-kept = refl;
           order-kept = refl;
         }
+
+    pub admits : need ≤ length scratch → x .events ≤ length order → Admits s x at need scratch order
+    admits i l =
+        record {
+          laid = h .laid;
+          describes = whole-admitted s (length scratch) (length order) X (h .says) (rw (need-same k) at i) (rw events l);
+          needs = need-same k;
+        }
+
+-- ---- the rules
+
+module _ {s : List ℕ} {x : Sheet} {at : List ℕ} {need : ℕ} {scratch order : List ℕ} (a : Admits s x at need scratch order) {t q p : List ℕ}
+    (ly : Layered s x at (replicate columns 0) t (replicate rowCells 0) q (replicate 64 0) p) {succ pred : List ℕ}
+    (o : Ordered t (min (x .events) slots) q (min (x .rows) rowRoom) p (min (x .pairs) pairRoom) (replicate slots 0) succ (replicate slots 0) pred) where
+  well : WellFormed (execution s x at)
+  well = promise s (execution s x at) (admitted-whole s (length scratch) (length order) (execution s x at) (a .describes) .describes)
+
+  -- what the rules find is what the model finds
+  found : {rule : Rule} → rule ≡ ruleIn t (min (x .events) slots) succ pred q (min (x .rows) rowRoom)
+      → foundOf rule ≡ fault (execution s x at) (hbOf succ)
+  found e = ap foundOf e ∙ sheet-rules (a .laid) well ly o
+
+  pub unbroken-of : {rule : Rule} → rule ≡ ruleIn t (min (x .events) slots) succ pred q (min (x .rows) rowRoom) → rule ≡ Kept
+      → Unbroken s (x .inits) (x .events) (x .rows) t q succ pred scratch order
+  unbroken-of e k =
+      record {
+        execution = execution s x at;
+        describes = a .describes;
+        starts = a .laid .inits;
+        held = sheet-held (a .laid) well ly o;
+        kept = sym (found e) ∙ ap foundOf k;
+      }
+
+  pub broken-rule : {rule : Rule} → rule ≡ ruleIn t (min (x .events) slots) succ pred q (min (x .rows) rowRoom) → {n : ℕ} {names : Names} → rule ≡ Breach n names
+      → {scratch′ : List ℕ} → scratch′ ≡ cleared need scratch → JudgedBroken s scratch order (faulty n names) scratch′ order
+  broken-rule e k c =
+      record {
+        execution = execution s x at;
+        describes = a .describes;
+        hb = hbOf succ;
+        tests = sheet-held (a .laid) well ly o .tests;
+        breaks = inl (sym (found e) ∙ ap foundOf k);
+        scratch-cleared = c ∙ ap (λ (i : ℕ). cleared i scratch) (a .needs);
+        order-kept = refl;
+      }

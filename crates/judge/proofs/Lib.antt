@@ -1,10 +1,2 @@
-pub mod TableLaws
-pub mod BeforeLaws
-pub mod OrderedLaws
-pub mod FindLaws
-pub mod RuleLaws
-pub mod TornLaws
-pub mod BarringLaws
-pub mod SettlingLaws
 pub mod ArrangeLaws
 pub mod JudgeLaws

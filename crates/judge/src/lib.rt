@@ -1,48 +1,44 @@
-// The judge: a sheet, a lent scratch and a lent order buffer become an answer.
+// The judge: a sheet, a lent scratch and a lent order buffer become an answer. Each step is a crate of its own.
 use answer::Answer;
 use answer::Names;
+use answer::Rule;
+use sets::SLOTS;
 use sheet::Reading;
 use sheet::Sheet;
-ghost use mathlib.Core.Path.{_≡_};
-ghost use Rattle.sheet.specs.Handed.{HandedWhole, execution};
-ghost use Rattle.model.specs.Judged.{needed, Judged};
-ghost use Rattle.judge.specs.Tables.{Admits, Unbroken};
+use tables::COLUMNS;
+use tables::PAIR_CELLS;
+use tables::ROW_CELLS;
+ghost use Rattle.sheet.specs.Handed.{HandedWhole};
+ghost use Rattle.model.specs.Judged.{Judged};
+ghost use Rattle.judge.specs.Admitted.{Admits, Unbroken};
 
-mod bars;
-mod before;
-mod rules;
-mod settle;
-mod table;
-
-// What a rule finds: nothing, or its number and its names.
-pub enum Rule {
-    Kept,
-    Breach(u8, Names),
-}
+// How many masks of bars there are: one for each V and W.
+const BARS: usize = 1024;
 
 // The last step, where no rule of 21 to 25 is broken: the first order, or 26.
 fn arrange(
     s: &[u8],
-    x: Sheet,
-    at: &[u16],
-    t: &[u8],
-    succ: &[u32],
-    pred: &[u32; 32],
+    inits: usize,
+    events: usize,
+    rows: usize,
+    t: &[u8; COLUMNS],
+    q: &[u8; ROW_CELLS],
+    succ: &[u32; SLOTS],
+    pred: &[u32; SLOTS],
     scratch: &mut [u8],
     order: &mut [u8],
 ) -> Answer
-    requires { ⌜ Unbroken (now s) x (now at) (now t) (now succ) (now pred) (now scratch) (now order) ⌝ }
+    requires { ⌜ Unbroken (now s) inits events rows (now t) (now q) (now succ) (now pred) (now scratch) (now order) ⌝ }
     ensures { λ r. ⌜ Judged (now (s .entry)) (now (scratch .entry)) (now (order .entry)) r (now (scratch .exit)) (now (order .exit)) ⌝ }
 {
-    let mut bars = [0u32; 1024];
-    bars::fill(s, x, at, t, succ, pred, &mut bars);
-    let inits = x.inits as usize;
-    let events = x.events as usize;
+    let mut bars = [0u32; BARS];
+    bars::fill(t, events, succ, pred, q, rows, &mut bars);
     let found = orders::first(inits, events, pred, &bars, scratch, order);
     if !found {
         return Answer::Broken(26, Names::Nobody);
     }
-    Answer::Consistent(settle::settle(s, x, at, t, succ, pred))
+    let settled = settle::settle(t, succ, events);
+    Answer::Consistent(settled)
 }
 
 // The rules 21 to 25 on tables filled from the sheet, and then the last step.
@@ -54,21 +50,27 @@ fn weigh(
     scratch: &mut [u8],
     order: &mut [u8],
 ) -> Answer
-    requires { ⌜ Admits (now s) x (now at) (now scratch) (now order) × (need ≡ needed (execution (now s) x (now at))) ⌝ }
+    requires { ⌜ Admits (now s) x (now at) need (now scratch) (now order) ⌝ }
     ensures { λ r. ⌜ Judged (now (s .entry)) (now (scratch .entry)) (now (order .entry)) r (now (scratch .exit)) (now (order .exit)) ⌝ }
 {
-    let mut t = [0u8; 192];
-    table::fill(s, x, at, &mut t);
-    let mut succ = [0u32; 32];
-    let mut pred = [0u32; 32];
-    before::fill(s, x, at, &t, &mut succ, &mut pred);
-    let rule = rules::first_broken(s, x, at, &t, &succ, &pred);
+    let inits = x.inits as usize;
+    let events = x.events as usize;
+    let rows = x.rows as usize;
+    let pairs = x.pairs as usize;
+    let mut t = [0u8; COLUMNS];
+    let mut q = [0u8; ROW_CELLS];
+    let mut p = [0u8; PAIR_CELLS];
+    lay::fill(s, x, at, &mut t, &mut q, &mut p);
+    let mut succ = [0u32; SLOTS];
+    let mut pred = [0u32; SLOTS];
+    before::fill(&t, events, &q, rows, &p, pairs, &mut succ, &mut pred);
+    let rule = rules::first_broken(&t, events, &succ, &pred, &q, rows);
     match rule {
         Rule::Breach(n, names) => {
             sets::clear(scratch, need);
             Answer::Broken(n, names)
         }
-        Rule::Kept => arrange(s, x, at, &t, &succ, &pred, scratch, order),
+        Rule::Kept => arrange(s, inits, events, rows, &t, &q, &succ, &pred, scratch, order),
     }
 }
 

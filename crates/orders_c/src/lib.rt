@@ -1,10 +1,11 @@
-// The search under the C calling convention, for benchmarks. No function has a `requires`; tables are arrays, so that their lengths are fixed.
+// The search under the C calling convention, for tests and benchmarks only: what C and Rust call stands in crates/plimdrong. No function has a
+// `requires`; tables are arrays, so that their lengths are fixed.
 ghost use Rattle.orders.specs.Answer.{Told, Answered};
 ghost use Rattle.orders_c.specs.Exported.{Exported};
 use orders::Count;
 
 #[no_mangle]
-pub extern "C" fn plimdrong_first(
+pub extern "C" fn orders_first(
     inits: usize,
     events: usize,
     before: &[u32; 32],
@@ -18,7 +19,7 @@ pub extern "C" fn plimdrong_first(
 }
 
 #[no_mangle]
-pub extern "C" fn plimdrong_possible(
+pub extern "C" fn orders_possible(
     inits: usize,
     events: usize,
     before: &[u32; 32],
@@ -32,7 +33,7 @@ pub extern "C" fn plimdrong_possible(
 
 // The number of the reachable sets; all bits where it is over the limit.
 #[no_mangle]
-pub extern "C" fn plimdrong_count_sets(
+pub extern "C" fn orders_count_sets(
     inits: usize,
     events: usize,
     before: &[u32; 32],

@@ -1,9 +1,8 @@
--- The laws of specs/Closure.antt: the closure of rows of successors, pivot by pivot, and columns. Assumes nothing.
+-- The laws of specs/Closure.antt: the closure of rows of successors, pivot by pivot. Assumes nothing.
 --     reach-trans                        a way after a way
 --     stage-none stage-next stage-all    what holds once the pivots below k are done; after the last it is the closure
 --     closed-square                      rows of n events stay rows of n events
---     closed-unique column-unique        there is one closure, and one column
---     column-none column-in column-out   a column, row by row
+--     closed-unique        there is one closure
 use mathlib.Core.Path.{_≡_, refl, sym, ap, ap₂, _∙_, subst}
 use mathlib.Core.Bool.{Bool, true, false, _&&_, _||_, or-false}
 use mathlib.Core.Logic.{_⊎_, inl, inr, ⊎-elim}
@@ -20,7 +19,7 @@ use lib.ListN.{length, getD, drop}
 use lib.Seq.{getD-drop, ext-getD}
 use lib.Bits.{bitOr}
 use Rattle.sets.specs.Mask.{mem, Has, pick, insert}
-use Rattle.sets.specs.Closure.{Reach, Square, Closed, IsColumn}
+use Rattle.sets.specs.Closure.{Reach, Square, Closed}
 use Rattle.sets.specs.Closure.Reach.{step, more}
 use Rattle.sets.specs.Sweep.{absorb, Swept}
 use Rattle.sets.proofs.BoolLaws.{bool-ext, by-bool, eqb-self, or-cases, or-left, or-right, and-parts}
@@ -147,32 +146,3 @@ module _ {n : ℕ} {r p q : List ℕ} (a : Closed n r p) (b : Closed n r q) wher
 
   pub closed-unique : p ≡ q
   closed-unique = ext-getD 0 p q (a .size ∙ sym (b .size)) (λ e l. same-row e (decLt e n))
-
--- ---- a column, row by row
-
-pub column-none : (rows : List ℕ) (e : ℕ) → IsColumn rows 0 e 0
-column-none rows e = record { below = pow-pos 0; has = λ d l. absurd (not-suc-le-zero l) }
-
-module _ (rows : List ℕ) (n e c : ℕ) (C : IsColumn rows n e c) where
-  last-out : mem c n ≡ false
-  last-out = mem-beyond n c n (C .below) (le-refl n)
-
-  wider : c < 2 ^ (n + 1)
-  wider = lt-of-lt-of-le (C .below) (pow-mono (le-add-right n 1))
-
-  pub column-in : mem (getD rows n 0) e ≡ true → IsColumn rows (n + 1) e (insert c n)
-  column-in h = record {
-    below = insert-lt (n + 1) c n wider (omega arith);
-    has = below-more (λ (d : ℕ). mem (insert c n) d ≡ mem (getD rows d 0) e) n
-        (λ d l. mem-insert c n d ∙ ap (λ (b : Bool). mem c d || b) (ne-eqb d n (λ q. omega arith)) ∙ or-false (mem c d) ∙ C .has d l)
-        (mem-insert c n n ∙ or-right (mem c n) (eqb n n) (eqb-self n) ∙ sym h);
-  }
-
-  pub column-out : mem (getD rows n 0) e ≡ false → IsColumn rows (n + 1) e c
-  column-out h = record {
-    below = wider;
-    has = below-more (λ (d : ℕ). mem c d ≡ mem (getD rows d 0) e) n (C .has) (last-out ∙ sym h);
-  }
-
-pub column-unique : {rows : List ℕ} {n e p q : ℕ} → IsColumn rows n e p → IsColumn rows n e q → p ≡ q
-column-unique {n = n} {p = p} {q = q} a b = ext n p q (a .below) (b .below) (λ d l. a .has d l ∙ sym (b .has d l))

@@ -4,7 +4,6 @@
 --     Reach n rows e d        d is reached from e by one or more steps, each but the last to a number below n
 --     Square n rows           the first n rows have no member but the numbers below n: then Reach n is plain reachability
 --     Closed n rows rows′     the first n rows of rows′ are the closure of those of rows, and the others are as they were
---     IsColumn rows n e c     c is the set of the numbers below n whose row has e
 use mathlib.Core.Path.{_≡_}
 use mathlib.Core.List.{List}
 use mathlib.Core.Logic.{_↔_}
@@ -26,7 +25,3 @@ pub record Closed (n : ℕ) (rows rows′ : List ℕ) : Type 0 where
   pub size : length rows′ ≡ length rows
   pub reach : (e : ℕ) → e < n → (d : ℕ) → Has (getD rows′ e 0) d ↔ Reach n rows e d
   pub rest : drop n rows′ ≡ drop n rows
-
-pub record IsColumn (rows : List ℕ) (n e c : ℕ) : Type 0 where
-  pub below : c < 2 ^ n
-  pub has : (d : ℕ) → d < n → mem c d ≡ mem (getD rows d 0) e

@@ -5,7 +5,7 @@ ghost use lib.ListN.{length};
 ghost use Rattle.sets.specs.Tells.{Tells};
 ghost use Rattle.sets.specs.Mask.{slots, mem, Within, insert, remove, full, above, Lowest};
 ghost use Rattle.sets.specs.Table.{isMarked, marking, bytesFor, cleared};
-ghost use Rattle.sets.specs.Closure.{taken, Closed, IsColumn};
+ghost use Rattle.sets.specs.Closure.{taken, Closed};
 ghost use Rattle.sets.specs.Sweep.{absorb, Swept};
 
 // How many events a mask can hold: its bits.
@@ -111,7 +111,7 @@ pub fn clear(table: &mut [u8], len: usize)
 // ---- rows of successors
 
 // The lesser of two numbers.
-fn least(a: usize, b: usize) -> usize
+pub fn least(a: usize, b: usize) -> usize
     ensures { λ r. ⌜ r ≡ min a b ⌝ }
 {
     if a < b { a } else { b }
@@ -143,18 +143,4 @@ pub fn close(rows: &mut [u32], n: usize)
     for k in 0..m {
         sweep(rows, m, k);
     }
-}
-
-// The events whose row has e: the predecessors of e, where a row is a set of successors; n counts as in `close`.
-pub fn column(rows: &[u32], n: usize, e: usize) -> u32
-    ensures { λ r. ⌜ IsColumn (now (rows .entry)) (taken n (now (rows .entry))) (e % slots) r ⌝ }
-{
-    let m = least(n, least(SLOTS, rows.len()));
-    let mut c = 0;
-    for d in 0..m {
-        if has(rows[d], e) {
-            c = with(c, d);
-        }
-    }
-    c
 }

@@ -1,15 +1,12 @@
 -- `judge::admit` meets its contract: 12, 13, or the judgement. Assumes nothing.
-use mathlib.Core.Path.{_≡_, refl, sym, ap, _∙_}
-use denote.Ref.{now}
-use native.Mathlib.Omega.{arith}
-use Rattle.judge.proofs.JudgeLaws.{inits-fit, need-same, short-scratch, short-order, admits}
+use Rattle.judge.proofs.JudgeLaws.{inits-fit, short-scratch, short-order, admits}
 use borrow.Author.Needs.{needs}
 use Rattle.judge.proofs.admit.Statement.{statement}
 use Rattle.judge.proofs.admit.Tie as tie
 
 -- src/lib.rt:80:14
 sub-n : tie.Need-sub-n
-sub-n c = inits-fit (now (c .before .before .before .before .before .args .s)) (c .before .before .before .before .before .args .x) (now (c .before .before .before .before .before .args .at)) (now (c .before .before .before .before .before .args .scratch)) (now (c .before .before .before .before .before .args .order)) (c .before .before .before .before .before .pre)
+sub-n c = inits-fit (c .before .before .before .before .before .pre)
 
 -- src/lib.rt:80:13
 cast-n : tie.Need-cast-n
@@ -21,7 +18,7 @@ needed-requires c κs = search needs
 
 -- src/lib.rt:83:9
 returns : tie.Need-returns
-returns c = short-scratch (now (c .before .before .before .before .before .before .before .args .s)) (c .before .before .before .before .before .before .before .args .x) (now (c .before .before .before .before .before .before .before .args .at)) (now (c .before .before .before .before .before .before .before .args .scratch)) (now (c .before .before .before .before .before .before .before .args .order)) (c .before .before .before .before .before .before .before .pre) (rw (c .before .needed .ensures ∙ need-same (now (c .before .before .before .before .before .before .before .args .s)) (c .before .before .before .before .before .before .before .args .x) (now (c .before .before .before .before .before .before .before .args .at)) (now (c .before .before .before .before .before .before .before .args .scratch)) (now (c .before .before .before .before .before .before .before .args .order)) (c .before .before .before .before .before .before .before .pre) _ refl) at (c .if1 .taken))
+returns c = short-scratch (c .before .before .before .before .before .before .before .pre) (c .before .needed .ensures) (c .if1 .taken)
 
 -- src/lib.rt:85:22
 cast-if2 : tie.Need-cast-if2
@@ -29,11 +26,11 @@ cast-if2 c = search needs
 
 -- src/lib.rt:86:9
 returns-2 : tie.Need-returns-2
-returns-2 c = short-order (now (c .before .before .before .before .before .before .before .before .before .args .s)) (c .before .before .before .before .before .before .before .before .before .args .x) (now (c .before .before .before .before .before .before .before .before .before .args .at)) (now (c .before .before .before .before .before .before .before .before .before .args .scratch)) (now (c .before .before .before .before .before .before .before .before .before .args .order)) (c .before .before .before .before .before .before .before .before .before .pre) (rw (c .before .before .before .needed .ensures ∙ need-same (now (c .before .before .before .before .before .before .before .before .before .args .s)) (c .before .before .before .before .before .before .before .before .before .args .x) (now (c .before .before .before .before .before .before .before .before .before .args .at)) (now (c .before .before .before .before .before .before .before .before .before .args .scratch)) (now (c .before .before .before .before .before .before .before .before .before .args .order)) (c .before .before .before .before .before .before .before .before .before .pre) _ refl) at (c .before .before .if1 .left)) (c .if2 .taken)
+returns-2 c = short-order (c .before .before .before .before .before .before .before .before .before .pre) (c .before .before .before .needed .ensures) (c .before .before .if1 .left) (c .if2 .taken)
 
 -- src/lib.rt:88:5
 weigh-requires : tie.Need-weigh-requires
-weigh-requires c κs = let e = c .before .before .before .before .before .needed .ensures ∙ need-same (now (c .before .before .before .before .before .before .before .before .before .before .before .args .s)) (c .before .before .before .before .before .before .before .before .before .before .before .args .x) (now (c .before .before .before .before .before .before .before .before .before .before .before .args .at)) (now (c .before .before .before .before .before .before .before .before .before .before .before .args .scratch)) (now (c .before .before .before .before .before .before .before .before .before .before .before .args .order)) (c .before .before .before .before .before .before .before .before .before .before .before .pre) _ refl in (admits (now (c .before .before .before .before .before .before .before .before .before .before .before .args .s)) (c .before .before .before .before .before .before .before .before .before .before .before .args .x) (now (c .before .before .before .before .before .before .before .before .before .before .before .args .at)) (now (c .before .before .before .before .before .before .before .before .before .before .before .args .scratch)) (now (c .before .before .before .before .before .before .before .before .before .before .before .args .order)) (c .before .before .before .before .before .before .before .before .before .before .before .pre) (rw e at (c .before .before .before .before .if1 .left)) (c .before .before .if2 .left), e)
+weigh-requires c κs = admits (c .before .before .before .before .before .before .before .before .before .before .before .pre) (c .before .before .before .before .before .needed .ensures) (c .before .before .before .before .if1 .left) (c .before .before .if2 .left)
 
 -- src/lib.rt:76:1
 same-length : tie.Need-same-length
@@ -45,7 +42,7 @@ same-length-2 c = search needs
 
 -- src/lib.rt:76:1
 returns-3 : tie.Need-returns-3
-returns-3 c = c .before .before .before .before .weigh .ensures
+returns-3 c = search needs
 
 pub admit-spec : {M : Type 1} → statement M
 admit-spec =

@@ -1,5 +1,4 @@
 -- `judge::judge` meets its contract: the reader's refusal, or what is judged of a whole sheet. Assumes nothing.
-use denote.Ref.{now}
 use Rattle.judge.proofs.JudgeLaws.{refused-sheet}
 use borrow.Author.Needs.{needs}
 use Rattle.judge.proofs.judge.Statement.{statement}
@@ -27,7 +26,7 @@ admit-requires c κs = rw (c .before .before .before .enum-told .given .1) at (c
 
 -- src/lib.rt:92:1
 returns : tie.Need-returns
-returns c = refused-sheet (now (c .before .before .before .before .before .before .before .before .before .args .s)) (now (c .before .before .before .before .before .before .before .before .before .args .scratch)) (now (c .before .before .before .before .before .before .before .before .before .args .order)) _ _ ((rw (c .before .reading .given .1) at (c .before .before .before .before .before .read .ensures)) .says)
+returns c = refused-sheet ((rw (c .before .reading .given .1) at (c .before .before .before .before .before .read .ensures)) .says)
 
 -- src/lib.rt:92:1
 same-length : tie.Need-same-length

@@ -1,0 +1,30 @@
+-- `bars::hits` meets its contract, test by test. Assumes nothing.
+use mathlib.Core.Path.{_≡_, refl, sym, ap, _∙_, subst}
+use mathlib.Core.Bool.{Bool, _&&_}
+use lib.Dec.{eqb}
+use Rattle.basis.specs.Test.{_and_}
+use Rattle.basis.proofs.BoolLaws.{amp-and}
+use Rattle.format.specs.Shape.{writes, sc}
+use Rattle.bars.proofs.BarsLaws.{hits-apart, hits-start}
+use borrow.Author.Needs.{needs}
+use Rattle.bars.proofs.hits.Statement.{statement}
+use Rattle.bars.proofs.hits.Tie as tie
+
+returns : tie.Need-returns
+returns c = hits-apart (c .before .before .before .args .a) (c .before .before .before .args .b) (c .if1 .taken)
+
+writes-requires : tie.Need-writes-requires
+writes-requires c κs = search needs
+
+returns-2 : tie.Need-returns-2
+unfolding sc
+returns-2 c =
+    let a = c .before .before .before .before .before .before .before .args .a in
+    let b = c .before .before .before .before .before .before .before .args .b in
+    amp-and (eqb (a .width) (b .width)) (eqb (a .mode) 2 && c .writes .result)
+    ∙ ap (λ (z : Bool). eqb (a .width) (b .width) and z) (amp-and (eqb (a .mode) 2) (c .writes .result))
+    ∙ ap (λ (z : Bool). eqb (a .width) (b .width) and (sc a and z)) (c .writes .ensures)
+    ∙ hits-start a b (c .before .before .before .before .if1 .left)
+
+pub hits-spec : {M : Type 1} → statement M
+hits-spec = tie.close (tie.spec returns writes-requires returns-2)

@@ -1,0 +1,67 @@
+-- `bars::note` meets its contract, by what the access is. Assumes nothing.
+use mathlib.Core.Path.{_≡_, refl, sym, ap, _∙_, subst}
+use mathlib.Core.Bool.{Bool, true, false, _&&_}
+use mathlib.Core.List.{List}
+use Prim.Native.Nat.{ℕ, _+_, _-_, _*_, _/_, _%_, _≤_, _<_, min}
+use native.Mathlib.Nat.{mod-eq-of-lt}
+use native.Mathlib.Omega.{arith}
+use Rattle.sets.specs.Mask.{slots}
+use borrow.Author.Tests.{not-true, not-false}
+use denote.Ref.{now}
+use lib.Dec.{eqb}
+use Rattle.basis.specs.Test.{_and_}
+use Rattle.basis.proofs.BoolLaws.{amp-and}
+use Rattle.format.specs.declared.Shape.{Shape}
+use Rattle.format.specs.Shape.{writes, sc}
+use Rattle.tables.specs.Tables.{accesses, shapeIn}
+use Rattle.cells.specs.Cells.{gaining}
+use Rattle.bars.specs.Bars.{scWrites, bytes, startGains}
+use Rattle.bars.proofs.BarsLaws.{start-gains, start-keeps}
+use borrow.Author.Needs.{needs}
+use Rattle.bars.proofs.note.Statement.{statement}
+use Rattle.bars.proofs.note.Tie as tie
+
+shape-requires : tie.Need-shape-requires
+shape-requires c κs = search needs
+
+writes-requires : tie.Need-writes-requires
+writes-requires c κs = search needs
+
+-- the place and the event, as the machine takes them
+gain-place : (t l : List ℕ) (a : Shape) (i : ℕ) → a ≡ shapeIn t (i % accesses)
+    → gaining l (a .start % bytes) (i % accesses / 2 % slots) ≡ gaining l (shapeIn t (i % accesses) .start % bytes) (i % accesses / 2)
+gain-place t l a i e =
+    ap (gaining l (a .start % bytes)) (mod-eq-of-lt (omega arith)) ∙ ap (λ (s : Shape). gaining l (s .start % bytes) (i % accesses / 2)) e
+
+returns : tie.Need-returns
+unfolding scWrites sc
+returns c =
+    let t = now (c .before .before .before .before .before .args .t) in
+    let k = c .before .before .before .before .before .args .k % accesses in
+    let a = c .before .before .before .shape .result in
+    let w : (eqb (a .mode) 2 && c .before .writes .result) ≡ scWrites t k = amp-and (eqb (a .mode) 2) (c .before .writes .result) ∙ ap (λ (z : Bool). eqb (a .mode) 2 and z) (c .before .writes .ensures) ∙ ap (λ (s : Shape). sc s and writes s) (c .before .before .before .shape .ensures) in
+    sym (start-keeps t k (now (c .before .before .before .before .before .args .starts)) (sym w ∙ not-true _ (c .if1 .taken)))
+
+cast-gain : tie.Need-cast-gain
+cast-gain c = search needs
+
+gain-requires : tie.Need-gain-requires
+gain-requires c κs = search needs
+
+same-length : tie.Need-same-length
+same-length c = search needs
+
+returns-2 : tie.Need-returns-2
+unfolding scWrites sc
+returns-2 c =
+    let t = now (c .before .before .before .before .before .before .before .before .before .before .args .t) in
+    let k = c .before .before .before .before .before .before .before .before .before .before .args .k % accesses in
+    let a = c .before .before .before .before .before .before .before .before .shape .result in
+    let w : (eqb (a .mode) 2 && c .before .before .before .before .before .before .writes .result) ≡ scWrites t k = amp-and (eqb (a .mode) 2) (c .before .before .before .before .before .before .writes .result) ∙ ap (λ (z : Bool). eqb (a .mode) 2 and z) (c .before .before .before .before .before .before .writes .ensures) ∙ ap (λ (s : Shape). sc s and writes s) (c .before .before .before .before .before .before .before .before .shape .ensures) in
+    c .before .before .gain .ensures ∙ gain-place t (now (c .before .before .before .before .before .before .before .before .before .before .args .starts)) a (c .before .before .before .before .before .before .before .before .before .before .args .k) (c .before .before .before .before .before .before .before .before .shape .ensures)
+    ∙ sym (start-gains t k (now (c .before .before .before .before .before .before .before .before .before .before .args .starts)) (sym w ∙ not-false _ (c .before .before .before .before .before .if1 .left)))
+
+pub note-spec : {M : Type 1} → statement M
+note-spec =
+    tie.close
+    (tie.spec shape-requires writes-requires returns cast-gain gain-requires same-length returns-2)

@@ -1,0 +1,37 @@
+-- `before::steps` meets its contract, call by call. Assumes nothing.
+use mathlib.Core.Path.{_≡_, refl, sym, ap, _∙_, subst}
+use mathlib.Core.Bool.{Bool, true, false}
+use mathlib.Core.Logic.{⊎-elim}
+use mathlib.Core.List.{List}
+use Prim.Native.Nat.{ℕ, _+_, _-_, _*_, _%_, _≤_, _<_, min}
+use native.Mathlib.Nat.{mod-eq-of-lt}
+use native.Mathlib.Omega.{arith}
+use borrow.Author.Needs.{needs}
+use denote.Ref.{now}
+use lib.ListN.{length, getD, set}
+use Rattle.sets.specs.Mask.{slots, mem, insert}
+use Rattle.tables.specs.Tables.{rowRoom, pairRoom}
+use Rattle.before.specs.Before.{rowsIn, pairsIn, stepsIn}
+use Rattle.before.proofs.steps.Statement.{statement}
+use Rattle.before.proofs.steps.Tie as tie
+
+owns-requires : tie.Need-owns-requires
+owns-requires c κs = search needs
+
+add-rows-requires : tie.Need-add-rows-requires
+add-rows-requires c κs = search needs
+
+add-pairs-requires : tie.Need-add-pairs-requires
+add-pairs-requires c κs = search needs
+
+same-length : tie.Need-same-length
+same-length c = search needs
+
+returns : tie.Need-returns
+unfolding stepsIn
+returns c = let a = c .before .before .before .before .before .before .before .before .before .before .before .before .before .args in
+    c .before .before .add-pairs .ensures ∙ ap (pairsIn (now (a .p)) (min (a .pairs) pairRoom)) (c .before .before .before .before .before .before .add-rows .ensures ∙ ap (rowsIn (now (a .t)) (now (a .q)) (min (a .rows) rowRoom)) (c .before .before .before .before .before .before .before .before .before .before .owns .ensures))
+
+pub steps-spec : {M : Type 1} → statement M
+steps-spec =
+    tie.close (tie.spec owns-requires add-rows-requires add-pairs-requires same-length returns)

@@ -1,0 +1,15 @@
+pub mod TabledLaws
+pub mod BarredLaws
+pub mod RuledLaws
+pub mod SourcesLaws
+pub mod TornLaws
+pub mod WholeLaws
+pub mod OrderedLaws
+pub mod SettledLaws
+pub mod Steps
+pub mod DataLaws
+pub mod LaidLaws
+pub mod RowsLaws
+pub mod SheetLaws
+pub mod Examples
+pub mod StoredLaws

@@ -1,0 +1,89 @@
+-- `rules::first_broken` meets its contract: each rule, where those before it found nothing. Assumes nothing.
+use mathlib.Core.Path.{_≡_, sym, ap, _∙_}
+use Rattle.answer.proofs.RulesLaws.{also-here, also-later}
+use Rattle.rules.specs.Rules.{ruleIn}
+use borrow.Author.Needs.{needs}
+use Rattle.rules.proofs.first_broken.Statement.{statement}
+use Rattle.rules.proofs.first_broken.Tie as tie
+
+rule21-requires : tie.Need-rule21-requires
+rule21-requires c κs = search needs
+
+enum-known-a : tie.Need-enum-known-a
+enum-known-a c = search needs
+
+returns : tie.Need-returns
+unfolding ruleIn
+returns c = also-here _ (sym (c .before .a .given .1) ∙ c .before .before .before .rule21 .ensures)
+
+enum-told : tie.Need-enum-told
+enum-told c = search needs
+
+rule22-requires : tie.Need-rule22-requires
+rule22-requires c κs = search needs
+
+enum-known-b : tie.Need-enum-known-b
+enum-known-b c = search needs
+
+returns-2 : tie.Need-returns-2
+unfolding ruleIn
+returns-2 c = also-later (sym (c .before .before .before .before .enum-told .given .1) ∙ c .before .before .before .before .before .before .rule21 .ensures) (also-here _ (sym (c .before .b .given .1) ∙ c .before .before .before .rule22 .ensures))
+
+enum-told-2 : tie.Need-enum-told-2
+enum-told-2 c = search needs
+
+rule23-requires : tie.Need-rule23-requires
+rule23-requires c κs = search needs
+
+enum-known-c : tie.Need-enum-known-c
+enum-known-c c = search needs
+
+returns-3 : tie.Need-returns-3
+unfolding ruleIn
+returns-3 c = also-later (sym (c .before .before .before .before .before .before .before .enum-told .given .1) ∙ c .before .before .before .before .before .before .before .before .before .rule21 .ensures) (also-later (sym (c .before .before .before .before .enum-told2 .given .1) ∙ c .before .before .before .before .before .before .rule22 .ensures) (also-here _ (sym (c .before .c .given .1) ∙ c .before .before .before .rule23 .ensures)))
+
+enum-told-3 : tie.Need-enum-told-3
+enum-told-3 c = search needs
+
+rule24-requires : tie.Need-rule24-requires
+rule24-requires c κs = search needs
+
+enum-known-d : tie.Need-enum-known-d
+enum-known-d c = search needs
+
+returns-4 : tie.Need-returns-4
+unfolding ruleIn
+returns-4 c = also-later (sym (c .before .before .before .before .before .before .before .before .before .before .enum-told .given .1) ∙ c .before .before .before .before .before .before .before .before .before .before .before .before .rule21 .ensures) (also-later (sym (c .before .before .before .before .before .before .before .enum-told2 .given .1) ∙ c .before .before .before .before .before .before .before .before .before .rule22 .ensures) (also-later (sym (c .before .before .before .before .enum-told3 .given .1) ∙ c .before .before .before .before .before .before .rule23 .ensures) (also-here _ (sym (c .before .d .given .1) ∙ c .before .before .before .rule24 .ensures))))
+
+enum-told-4 : tie.Need-enum-told-4
+enum-told-4 c = search needs
+
+rule25-requires : tie.Need-rule25-requires
+rule25-requires c κs = search needs
+
+returns-5 : tie.Need-returns-5
+unfolding ruleIn
+returns-5 c = also-later (sym (c .before .before .before .before .before .before .before .before .before .before .enum-told .given .1) ∙ c .before .before .before .before .before .before .before .before .before .before .before .before .rule21 .ensures) (also-later (sym (c .before .before .before .before .before .before .before .enum-told2 .given .1) ∙ c .before .before .before .before .before .before .before .before .before .rule22 .ensures) (also-later (sym (c .before .before .before .before .enum-told3 .given .1) ∙ c .before .before .before .before .before .before .rule23 .ensures) (also-later (sym (c .before .enum-told4 .given .1) ∙ c .before .before .before .rule24 .ensures) (c .rule25 .ensures))))
+
+pub first-broken-spec : {M : Type 1} → statement M
+first-broken-spec =
+    tie.close
+    (tie.spec
+    rule21-requires
+    enum-known-a
+    returns
+    enum-told
+    rule22-requires
+    enum-known-b
+    returns-2
+    enum-told-2
+    rule23-requires
+    enum-known-c
+    returns-3
+    enum-told-3
+    rule24-requires
+    enum-known-d
+    returns-4
+    enum-told-4
+    rule25-requires
+    returns-5)

@@ -1,0 +1,78 @@
+-- `rules::over` meets its contract: what stands before j passes not. The measure is what is left. Assumes nothing.
+use mathlib.Core.Path.{_≡_, refl, sym, ap, _∙_, subst}
+use mathlib.Core.Bool.{Bool, true, false}
+use Prim.Native.Nat.{ℕ, _+_, _-_, _*_, _/_, _%_, _≤_, _<_, min}
+use native.Mathlib.Nat.{mod-eq-of-lt}
+use native.Mathlib.Omega.{arith}
+use borrow.Author.Count.{below-more}
+use borrow.Author.Needs.{needs}
+use denote.Ref.{now}
+use lib.ListN.{length, getD}
+use Rattle.sets.specs.Mask.{slots}
+use Rattle.sets.proofs.MaskLaws.{at-slot}
+use Rattle.cells.proofs.FirstLaws.{first-found, first-none, first-or}
+use Rattle.tables.specs.Tables.{rowRoom, accesses}
+use Rattle.rules.specs.Rules.{overIn}
+use Rattle.rules.proofs.RulesLaws.{over-yes, over-no}
+use Rattle.rules.proofs.over.Statement.{statement}
+use Rattle.rules.proofs.over.Tie as tie
+
+abbrev Inv-loop : tie.InvT-loop
+Inv-loop t q n succ pred m j₀ j = (j ≤ m) × (m ≤ rowRoom) × ((d : ℕ) → d < j → overIn t q succ pred d ≡ false)
+
+abbrev μ-loop : tie.MeasureT-loop
+μ-loop t q n succ pred m j₀ j = m - j
+
+least-requires : tie.Need-least-requires Inv-loop μ-loop
+least-requires c κs = search needs
+
+loop-holds : tie.Need-loop-holds Inv-loop μ-loop
+loop-holds c = (omega arith, omega arith, λ d h. absurd (omega arith))
+
+row-requires : tie.Need-row-requires Inv-loop μ-loop
+row-requires c κs = search needs
+
+between-requires : tie.Need-between-requires Inv-loop μ-loop
+between-requires c κs = search needs
+
+returns : tie.Need-returns Inv-loop μ-loop
+returns c =
+    let l = c .before .before .before .before .loop in
+    let a = c .before .before .before .before .before .before .args in
+    let z = c .before .before .before .before .before .least .ensures in
+    first-found (overIn (now (a .t)) (now (a .q)) (now (a .succ)) (now (a .pred))) (min (a .n) rowRoom) (l .j) (omega arith) (l .inv .2) (over-yes (now (a .q)) (l .j) (omega arith) (c .before .before .row .result) (c .before .before .row .ensures) (now (a .t)) (now (a .succ)) (now (a .pred)) (c .before .between .result) (c .before .between .ensures) (c .if1 .taken))
+
+add-j : tie.Need-add-j Inv-loop μ-loop
+add-j c = search needs
+
+loop-less : tie.Need-loop-less Inv-loop μ-loop
+loop-less c = search needs
+
+loop-again : tie.Need-loop-again Inv-loop μ-loop
+loop-again c =
+    let l = c .before .before .before .before .loop in
+    let a = c .before .before .before .before .before .before .args in
+    (omega arith, l .inv .1, below-more (λ (d : ℕ). overIn (now (a .t)) (now (a .q)) (now (a .succ)) (now (a .pred)) d ≡ false) (l .j) (l .inv .2) (over-no (now (a .q)) (l .j) (omega arith) (c .before .before .row .result) (c .before .before .row .ensures) (now (a .t)) (now (a .succ)) (now (a .pred)) (c .before .between .result) (c .before .between .ensures) (c .if1 .left)))
+
+returns-2 : tie.Need-returns-2 Inv-loop μ-loop
+returns-2 c =
+    let l = c .before .loop in
+    let a = c .before .before .before .args in
+    let z = c .before .before .least .ensures in
+    z ∙ first-none (overIn (now (a .t)) (now (a .q)) (now (a .succ)) (now (a .pred))) (min (a .n) rowRoom) (l .j) (omega arith) (omega arith) (l .inv .2)
+
+pub over-spec : {M : Type 1} → statement M
+over-spec =
+    tie.close
+    (tie.spec
+    Inv-loop
+    μ-loop
+    least-requires
+    loop-holds
+    row-requires
+    between-requires
+    returns
+    add-j
+    loop-less
+    loop-again
+    returns-2)

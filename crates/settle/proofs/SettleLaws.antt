@@ -1,0 +1,155 @@
+-- The laws of specs/Settle.antt. Assumes nothing.
+--     clash-apart, clash-meet, clash-left, clash-right     when two accesses clash
+--     ahead-is                       the mask of those to try
+--     free-shut, free-open           a pair that happens-before settles, and another
+--     first-past                     a loop that has come to the end or beyond
+--     partner-start, partner-hit, partner-end     a loop over those to try
+--     settled-found, settled-none    what the search answers
+use mathlib.Core.Path.{_≡_, refl, sym, ap, _∙_, subst}
+use mathlib.Core.Bool.{Bool, true, false, cond, not}
+use mathlib.Core.List.{List}
+use Prim.Native.Nat.{ℕ, _+_, _-_, _^_, _<_, _≤_, min}
+use native.Mathlib.Omega.{arith}
+use native.Mathlib.Decide.{decLt}
+use borrow.Author.Tests.{lt-ltb, le-ltb, ltb-true}
+use lib.Bits.{bitAnd}
+use lib.Dec.{ltb}
+use lib.ListN.{getD}
+use Rattle.basis.specs.Test.{_and_, _or_, non}
+use Rattle.basis.proofs.LoopLaws.{and-holds, and-fails, and-both, non-holds}
+use Rattle.basis.proofs.BoolLaws.{and-assoc, non-fails, amp-and, not-non}
+use Rattle.format.specs.declared.Shape.{Shape}
+use Rattle.format.specs.Shape.{writes, overlap, bothSc}
+use Rattle.sets.specs.Mask.{slots, mem, full, Lowest}
+use Rattle.sets.proofs.BoolLaws.{false-of}
+use Rattle.sets.proofs.MaskLaws.{mem-diff, mem-full, full-has, lt-of-members, ext-all}
+use Rattle.answer.specs.declared.Settled.{Settled}
+use Rattle.answer.specs.declared.Settled.the-variants.{Orderly, Unsettled}
+use Rattle.cells.specs.First.{firstOf, First}
+use Rattle.cells.specs.Walk.{picked}
+use Rattle.cells.proofs.FirstLaws.{first-of, first-is, first-found, Left, left-start, left-lowest, left-hit, left-end}
+use Rattle.cells.proofs.WalkLaws.{mem-picked}
+use Rattle.tables.proofs.TablesLaws.{overlap-left, overlap-right}
+use Rattle.settle.specs.Settle.{clashing, clashIn, aheadIn, freeIn, openIn, partnerIn, looseIn, settledIn}
+
+-- what overlaps nothing clashes with nothing
+clash-none : (a b : Shape) → overlap a b ≡ false → clashing a b ≡ false
+unfolding clashing
+clash-none a b h = and-fails (overlap a b) _ h
+
+pub clash-apart : (a b : Shape) → overlap a b ≡ false → false ≡ clashing a b
+clash-apart a b h = sym (clash-none a b h)
+
+pub clash-meet : (a b : Shape) → overlap a b ≡ true → ((writes a or writes b) and non (bothSc a b)) ≡ clashing a b
+unfolding clashing
+clash-meet a b h = sym (and-holds (overlap a b) _ h)
+
+pub clash-left : (a b : Shape) → a .width ≡ 0 → clashing a b ≡ false
+clash-left a b e = clash-none a b (overlap-left a b e)
+
+pub clash-right : (a b : Shape) → b .width ≡ 0 → clashing a b ≡ false
+clash-right a b e = clash-none a b (overlap-right a b e)
+
+module _ (t succ : List ℕ) (e d : ℕ) where
+  pub free-shut : mem (getD succ d 0) e ≡ true → false ≡ freeIn t succ e d
+  unfolding freeIn
+  free-shut h = sym (and-fails (non (mem (getD succ d 0) e)) (clashIn t e d) (non-fails _ h))
+
+  pub free-open : mem (getD succ d 0) e ≡ false → clashIn t e d ≡ freeIn t succ e d
+  unfolding freeIn
+  free-open h = sym (and-holds (non (mem (getD succ d 0) e)) (clashIn t e d) (non-holds _ h))
+
+  open-is : (aheadIn (getD succ e 0) e d and freeIn t succ e d) ≡ openIn t succ e d
+  unfolding aheadIn freeIn openIn
+  open-is = and-assoc (ltb e d) (non (mem (getD succ e 0) d)) (freeIn t succ e d)
+
+-- the mask of those to try
+module _ (row n e : ℕ) (few : n ≤ slots) (at : e < slots) (w : row < 2 ^ slots) where
+  full-width : (k : ℕ) → k ≤ slots → full k < 2 ^ slots
+  full-width k h = lt-of-members slots (full k) (λ i g. let z = full-has k i g in omega arith)
+
+  in-full : (k d : ℕ) → Dec (d < k) → mem (full k) d ≡ ltb d k
+  in-full k d (yes l) = mem-full k d l ∙ sym (lt-ltb d k l)
+  in-full k d (no l) = false-of _ (λ g. let z = full-has k d g in absurd (omega (arith, l))) ∙ sym (le-ltb d k (omega (arith, l)))
+
+  past-full : (d : ℕ) → Dec (e < d) → non (mem (full (e + 1)) d) ≡ ltb e d
+  past-full d (yes l) = non-holds _ (false-of _ (λ g. let z = full-has (e + 1) d g in absurd (omega arith))) ∙ sym (lt-ltb e d l)
+  past-full d (no l) = non-fails _ (mem-full (e + 1) d (omega (arith, l))) ∙ sym (le-ltb e d (omega (arith, l)))
+
+  apart : (a b d : ℕ) → a < 2 ^ slots → b < 2 ^ slots → mem (bitAnd a (2 ^ slots - 1 - b)) d ≡ (mem a d and non (mem b d))
+  apart a b d h k = mem-diff slots a b d h k ∙ amp-and (mem a d) (not (mem b d)) ∙ ap (λ (x : Bool). mem a d and x) (not-non (mem b d))
+
+  abbrev later : ℕ
+  later = bitAnd (full n) (2 ^ slots - 1 - full (e + 1))
+
+  later-mem : (d : ℕ) → mem later d ≡ (ltb d n and ltb e d)
+  later-mem d =
+      apart (full n) (full (e + 1)) d (full-width n few) (full-width (e + 1) (omega arith))
+      ∙ ap (λ (x : Bool). x and non (mem (full (e + 1)) d)) (in-full n d (decLt d n))
+      ∙ ap (λ (x : Bool). ltb d n and x) (past-full d (decLt e d))
+
+  later-width : later < 2 ^ slots
+  later-width = lt-of-members slots later (λ d g. let l = ltb-true d n (and-both (ltb d n) (ltb e d) (sym (later-mem d) ∙ g) .0) in omega arith)
+
+  pub ahead-is : bitAnd later (2 ^ slots - 1 - row) ≡ picked n (aheadIn row e)
+  unfolding aheadIn
+  ahead-is =
+      ext-all (bitAnd later (2 ^ slots - 1 - row)) (picked n (aheadIn row e))
+      (λ d. apart later row d later-width w
+      ∙ ap (λ (x : Bool). x and non (mem row d)) (later-mem d)
+      ∙ and-assoc (ltb d n) (ltb e d) (non (mem row d))
+      ∙ sym (mem-picked n (aheadIn row e) d))
+
+pub first-past : (p : ℕ → Bool) (n j : ℕ) → n ≤ j → ((d : ℕ) → d < j → p d ≡ false) → n ≡ firstOf p n
+first-past p n j h l = first-is p (record { within = omega arith; passes = λ z. absurd (omega arith); least = λ d z. l d (omega arith) })
+
+-- two tests that agree below n
+first-below : (p q : ℕ → Bool) (n k : ℕ) → n ≤ k → ((d : ℕ) → d < n → p d ≡ q d) → min (firstOf p k) n ≡ firstOf q n
+first-below p q n k few same =
+    let f = first-of p k in
+    first-is q
+    (record {
+      within = omega arith;
+      passes = λ h. let z : min (firstOf p k) n ≡ firstOf p k = omega arith in sym (same (min (firstOf p k) n) h) ∙ ap p z ∙ f .passes (omega arith);
+      least = λ d h. sym (same d (omega arith)) ∙ f .least d (omega arith);
+    })
+
+-- a loop over those to try, of which `left` has the rest
+pub partner-start : (t succ : List ℕ) (n e : ℕ) → n ≤ slots → Left (freeIn t succ e) (picked n (aheadIn (getD succ e 0) e)) (picked n (aheadIn (getD succ e 0) e))
+partner-start t succ n e few =
+    left-start (freeIn t succ e) (picked n (aheadIn (getD succ e 0) e))
+    (lt-of-members slots _ (λ d h. let l = ltb-true d n (and-both (ltb d n) _ (sym (mem-picked n (aheadIn (getD succ e 0) e) d) ∙ h) .0) in omega arith))
+
+module _ (t succ : List ℕ) (n e : ℕ) (few : n ≤ slots) {left : ℕ} (have : Left (freeIn t succ e) (picked n (aheadIn (getD succ e 0) e)) left) where
+  agree : (d : ℕ) → d < n → (mem (picked n (aheadIn (getD succ e 0) e)) d and freeIn t succ e d) ≡ openIn t succ e d
+  agree d h =
+      ap (λ (x : Bool). x and freeIn t succ e d) (mem-picked n (aheadIn (getD succ e 0) e) d ∙ and-holds (ltb d n) (aheadIn (getD succ e 0) e d) (lt-ltb d n h)) ∙ open-is t succ e d
+
+  firsts : min (firstOf (λ (d : ℕ). mem (picked n (aheadIn (getD succ e 0) e)) d and freeIn t succ e d) slots) n ≡ firstOf (openIn t succ e) n
+  firsts = first-below (λ (d : ℕ). mem (picked n (aheadIn (getD succ e 0) e)) d and freeIn t succ e d) (openIn t succ e) n slots few agree
+
+  pub partner-hit : (v : ℕ) → Lowest left v → (left ≡ 0 → ⊥) → freeIn t succ e v ≡ true → v ≡ firstOf (openIn t succ e) n
+  partner-hit v low f y =
+      let h = have .of v (left-lowest have v low f .0) in
+      let l = ltb-true v n (and-both (ltb v n) (aheadIn (getD succ e 0) e v) (sym (mem-picked n (aheadIn (getD succ e 0) e) v) ∙ h) .0) in
+      let z : v ≡ min v n = omega arith in
+      z ∙ ap (λ (i : ℕ). min i n) (left-hit have v low f y) ∙ firsts
+
+  pub partner-end : left ≡ 0 → n ≡ firstOf (openIn t succ e) n
+  partner-end z =
+      let y : n ≡ min slots n = omega arith in
+      y ∙ ap (λ (i : ℕ). min i n) (left-end have z) ∙ firsts
+
+module _ (t succ : List ℕ) (n e : ℕ) (before : (d : ℕ) → d < e → looseIn t succ n d ≡ false) where
+  pub settled-found : e < n → partnerIn t succ n e < n → Unsettled e (partnerIn t succ n e) ≡ settledIn t succ n
+  unfolding settledIn
+  settled-found h k =
+      let y : e ≡ firstOf (looseIn t succ n) n = first-found (looseIn t succ n) n e h before (lt-ltb (partnerIn t succ n e) n k) in
+      ap (λ (i : ℕ). Unsettled i (partnerIn t succ n i)) y
+      ∙ sym (ap (λ (b : Bool). cond b (Unsettled (firstOf (looseIn t succ n) n) (partnerIn t succ n (firstOf (looseIn t succ n) n))) Orderly) (lt-ltb (firstOf (looseIn t succ n) n) n (omega arith)))
+
+  pub settled-none : n ≤ e → Orderly ≡ settledIn t succ n
+  unfolding settledIn
+  settled-none h =
+      let y : n ≡ firstOf (looseIn t succ n) n = first-past (looseIn t succ n) n e h before in
+      sym (ap (λ (b : Bool). cond b (Unsettled (firstOf (looseIn t succ n) n) (partnerIn t succ n (firstOf (looseIn t succ n) n))) Orderly) (le-ltb (firstOf (looseIn t succ n) n) n (omega arith)))

@@ -1,0 +1,31 @@
+-- `tables::pair` meets its contract, field by field. Assumes nothing.
+use mathlib.Core.Path.{_≡_, refl, sym, ap, _∙_, subst}
+use mathlib.Core.Bool.{Bool, true, false}
+use mathlib.Core.Logic.{⊎-elim}
+use mathlib.Core.List.{List}
+use Prim.Native.Nat.{ℕ, _+_, _-_, _*_, _%_, _≤_, _<_, min}
+use native.Mathlib.Nat.{mod-eq-of-lt}
+use native.Mathlib.Omega.{arith}
+use borrow.Author.Needs.{needs}
+use denote.Ref.{now}
+use lib.ListN.{length, getD, set}
+use Rattle.sets.specs.Mask.{slots, mem, insert}
+use Rattle.tables.specs.Tables.{pairIn}
+use Rattle.tables.proofs.pair.Statement.{statement}
+use Rattle.tables.proofs.pair.Tie as tie
+
+element-copy-out-t6 : tie.Need-element-copy-out-t6
+element-copy-out-t6 c = search needs
+
+add-t8 : tie.Need-add-t8
+add-t8 c = search needs
+
+element-copy-out-t11 : tie.Need-element-copy-out-t11
+element-copy-out-t11 c = search needs
+
+returns : tie.Need-returns
+unfolding pairIn
+returns c = refl
+
+pub pair-spec : {M : Type 1} → statement M
+pair-spec = tie.close (tie.spec element-copy-out-t6 add-t8 element-copy-out-t11 returns)

@@ -1,0 +1,160 @@
+// The tables that every step of the judge works on, in arrays of fixed length. No function has a `requires`: an event counts by its place
+// among 32, a slot by its place among 64, a row by its place among 512.
+use format::Pair;
+use format::Row;
+use format::Shape;
+use format::tests::covers;
+ghost use mathlib.Core.Path.{_≡_};
+ghost use Prim.Native.Nat.{_%_};
+ghost use lib.ListN.{set};
+ghost use Rattle.sets.specs.Mask.{slots};
+ghost use Rattle.tables.specs.Tables.{accesses, agentIn, shapeIn, slotIn, atIn, rowRoom, rowIn, seenIn, wroteIn, pairRoom, pairIn, putting, puttingRow, puttingPair};
+
+// The slots for accesses, two to an event.
+pub const ACCESSES: usize = 64;
+
+// The places for agents: 01 and 02 have at most 8.
+pub const AGENTS: usize = 16;
+
+// A column of 32 agents, then five of 64: kind, mode, start, width, tear.
+pub const COLUMNS: usize = 352;
+
+// A well-formed sheet has at most 8 rows for each access of its events that are not inits: 128 today, 288 with 02 §6 and §11.
+pub const ROWS: usize = 512;
+
+// Five columns: reader, flat byte, writer, seen, wrote.
+pub const ROW_CELLS: usize = 2560;
+
+// At most 32 pairs.
+pub const PAIRS: usize = 32;
+
+// Two columns: first, second.
+pub const PAIR_CELLS: usize = 64;
+
+// Writes a byte.
+fn put(bytes: &mut [u8], i: usize, b: u8)
+    ensures { λ _. ⌜ now (bytes .exit) ≡ set (now (bytes .entry)) i b ⌝ }
+{
+    if i < bytes.len() {
+        bytes[i] = b;
+    }
+}
+
+// ---- accesses
+
+pub fn agent(t: &[u8; COLUMNS], e: usize) -> u8
+    ensures { λ r. ⌜ r ≡ agentIn (now (t .entry)) (e % slots) ⌝ }
+{
+    t[e % 32] % 16
+}
+
+pub fn shape(t: &[u8; COLUMNS], k: usize) -> Shape
+    ensures { λ r. ⌜ r ≡ shapeIn (now (t .entry)) (k % accesses) ⌝ }
+{
+    let i = k % 64;
+    Shape {
+        kind: t[32 + i],
+        mode: t[96 + i],
+        start: t[160 + i],
+        width: t[224 + i],
+        tear: t[288 + i],
+    }
+}
+
+// The slot of event e's access that covers the flat byte a; the second where the first does not.
+pub fn slot_at(t: &[u8; COLUMNS], e: usize, a: u8) -> usize
+    ensures { λ r. ⌜ r ≡ slotIn (now (t .entry)) (e % slots) a ⌝ }
+{
+    let k = 2 * (e % 32);
+    if covers(shape(t, k), a) { k } else { k + 1 }
+}
+
+// The access of event e that covers the flat byte a, or one that does nothing.
+pub fn at(t: &[u8; COLUMNS], e: usize, a: u8) -> Shape
+    ensures { λ r. ⌜ r ≡ atIn (now (t .entry)) (e % slots) a ⌝ }
+{
+    let b = shape(t, slot_at(t, e, a));
+    if covers(b, a) {
+        return b;
+    }
+    Shape {
+        kind: 0,
+        mode: 0,
+        start: 0,
+        width: 0,
+        tear: 0,
+    }
+}
+
+pub fn put_agent(t: &mut [u8], e: usize, agent: u8)
+    ensures { λ _. ⌜ now (t .exit) ≡ set (now (t .entry)) (e % slots) agent ⌝ }
+{
+    put(t, e % 32, agent);
+}
+
+pub fn put_access(t: &mut [u8], k: usize, a: Shape)
+    ensures { λ _. ⌜ now (t .exit) ≡ putting (now (t .entry)) (k % accesses) a ⌝ }
+{
+    let i = k % 64;
+    put(t, 32 + i, a.kind);
+    put(t, 96 + i, a.mode);
+    put(t, 160 + i, a.start);
+    put(t, 224 + i, a.width);
+    put(t, 288 + i, a.tear);
+}
+
+// ---- rows
+
+pub fn row(q: &[u8; ROW_CELLS], j: usize) -> Row
+    ensures { λ r. ⌜ r ≡ rowIn (now (q .entry)) (j % rowRoom) ⌝ }
+{
+    let i = j % 512;
+    Row {
+        reader: q[i] % 32,
+        address: q[512 + i],
+        writer: q[1024 + i] % 32,
+    }
+}
+
+pub fn seen(q: &[u8; ROW_CELLS], j: usize) -> u8
+    ensures { λ r. ⌜ r ≡ seenIn (now (q .entry)) (j % rowRoom) ⌝ }
+{
+    q[1536 + j % 512]
+}
+
+pub fn wrote(q: &[u8; ROW_CELLS], j: usize) -> u8
+    ensures { λ r. ⌜ r ≡ wroteIn (now (q .entry)) (j % rowRoom) ⌝ }
+{
+    q[2048 + j % 512]
+}
+
+pub fn put_row(q: &mut [u8], j: usize, r: Row, seen: u8, wrote: u8)
+    ensures { λ _. ⌜ now (q .exit) ≡ puttingRow (now (q .entry)) (j % rowRoom) r seen wrote ⌝ }
+{
+    let i = j % 512;
+    put(q, i, r.reader);
+    put(q, 512 + i, r.address);
+    put(q, 1024 + i, r.writer);
+    put(q, 1536 + i, seen);
+    put(q, 2048 + i, wrote);
+}
+
+// ---- pairs
+
+pub fn pair(p: &[u8; PAIR_CELLS], j: usize) -> Pair
+    ensures { λ r. ⌜ r ≡ pairIn (now (p .entry)) (j % pairRoom) ⌝ }
+{
+    let i = j % 32;
+    Pair {
+        first: p[i] % 32,
+        second: p[32 + i] % 32,
+    }
+}
+
+pub fn put_pair(p: &mut [u8], j: usize, r: Pair)
+    ensures { λ _. ⌜ now (p .exit) ≡ puttingPair (now (p .entry)) (j % pairRoom) r ⌝ }
+{
+    let i = j % 32;
+    put(p, i, r.first);
+    put(p, 32 + i, r.second);
+}

@@ -1,0 +1,2 @@
+pub mod TwoLaws
+pub mod TornLaws

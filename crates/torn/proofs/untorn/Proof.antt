@@ -1,0 +1,65 @@
+-- `torn::untorn` meets its contract, test by test. Assumes nothing.
+use mathlib.Core.Path.{_≡_, refl, sym, ap, _∙_, subst}
+use mathlib.Core.Bool.{Bool, true, false}
+use Prim.Native.Nat.{ℕ, _+_, _-_, _*_, _/_, _%_, _≤_, _<_, min}
+use native.Mathlib.Nat.{mod-eq-of-lt}
+use native.Mathlib.Omega.{arith}
+use borrow.Author.Count.{below-more}
+use borrow.Author.Needs.{needs}
+use denote.Ref.{now}
+use lib.ListN.{length, getD}
+use Rattle.sets.specs.Mask.{slots, mem, Lowest}
+use Rattle.sets.proofs.MaskLaws.{at-slot}
+use Rattle.cells.proofs.FirstLaws.{first-found, first-none, first-or}
+use Rattle.tables.specs.Tables.{rowRoom, accesses}
+use Rattle.basis.specs.Test.{_and_}
+use Rattle.format.specs.Shape.{tearFree}
+use Rattle.tables.specs.Tables.{slotIn}
+use Rattle.tables.proofs.TablesLaws.{slot-lt}
+use Rattle.torn.specs.Torn.{untornIn}
+use borrow.Author.Needs.{needs}
+use Rattle.torn.proofs.untorn.Statement.{statement}
+use Rattle.torn.proofs.untorn.Tie as tie
+
+cast-slot-at : tie.Need-cast-slot-at
+cast-slot-at c = search needs
+
+slot-at-requires : tie.Need-slot-at-requires
+slot-at-requires c κs = search needs
+
+shape-requires : tie.Need-shape-requires
+shape-requires c κs = search needs
+
+cast-slot-at-2 : tie.Need-cast-slot-at-2
+cast-slot-at-2 c = search needs
+
+slot-at-requires-2 : tie.Need-slot-at-requires-2
+slot-at-requires-2 c κs = search needs
+
+shape-requires-2 : tie.Need-shape-requires-2
+shape-requires-2 c κs = search needs
+
+equal-requires : tie.Need-equal-requires
+equal-requires c κs = search needs
+
+returns : tie.Need-returns
+unfolding untornIn tearFree _and_
+returns c =
+    let t = now (c .before .before .before .before .before .before .before .before .before .args .t) in
+    let r = c .before .before .before .before .before .before .before .before .before .args .r in
+    let i : slotIn t (r .reader % slots) (r .address) % accesses ≡ slotIn t (r .reader % slots) (r .address) = mod-eq-of-lt (slot-lt t (r .reader % slots) (r .address) (omega arith)) in
+    let j : slotIn t (r .writer % slots) (r .address) % accesses ≡ slotIn t (r .writer % slots) (r .address) = mod-eq-of-lt (slot-lt t (r .writer % slots) (r .address) (omega arith)) in
+    simp (c .equal .ensures, c .before .before .before .before .before .before .shape .ensures, c .before .before .before .shape2 .ensures, c .before .before .before .before .before .before .before .slot-at .ensures, c .before .before .before .before .slot-at2 .ensures, i, j)
+
+pub untorn-spec : {M : Type 1} → statement M
+untorn-spec =
+    tie.close
+    (tie.spec
+    cast-slot-at
+    slot-at-requires
+    shape-requires
+    cast-slot-at-2
+    slot-at-requires-2
+    shape-requires-2
+    equal-requires
+    returns)

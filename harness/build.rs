@@ -1,14 +1,14 @@
-// Links target/native/libjudge_c.a, the proved judge as harness/native.sh makes it for the machine at hand.
+// Links target/native/libplimdrong.a, the proved judge as harness/native.sh makes it for the machine at hand.
 use std::path::PathBuf;
 
 fn main() {
     let here = PathBuf::from(std::env::var("CARGO_MANIFEST_DIR").expect("cargo sets it"));
     let libs = here.join("../target/native");
-    let archive = libs.join("libjudge_c.a");
+    let archive = libs.join("libplimdrong.a");
     println!("cargo:rerun-if-changed={}", archive.display());
     if !archive.exists() {
         println!("cargo:warning={} is missing: run harness/native.sh first", archive.display());
     }
     println!("cargo:rustc-link-search=native={}", libs.display());
-    println!("cargo:rustc-link-lib=static=judge_c");
+    println!("cargo:rustc-link-lib=static=plimdrong");
 }

@@ -1,9 +1,9 @@
 #!/bin/sh
-# native.sh [NAME]: target/native/libNAME.a, the static library NAME (judge_c if none is named) for the machine at hand.
+# native.sh [NAME]: target/native/libNAME.a, the static library NAME (plimdrong if none is named) for the machine at hand.
 # On x86-64 it is what `rt staticlib` writes. On Arm that archive cannot be linked, so the LLVM module that rattle hands
 # to its clang is kept, and the kit's clang compiles the same module for Arm at the same -O3: for tests and benchmarks.
 set -eu
-name=${1:-judge_c}
+name=${1:-plimdrong}
 cd "$(dirname "$0")/.."
 out=target/native
 mkdir -p $out

@@ -11,10 +11,11 @@
  *   case PLIMDRONG_CONSISTENT: the order stands in order[0], order[1], ..
  *   }
  *
- * Link with libjudge_c.a (harness/native.sh writes target/native/libjudge_c.a for the machine at hand).
+ * Link with libplimdrong.a (harness/native.sh writes target/native/libplimdrong.a for the machine at hand).
  *
  * THE WORD. Kind (1, 2, 3) times 2^40, plus number times 2^32, plus 32 bits: the place for a refusal, else four names as
- * bytes, the first most significant, PLIMDRONG_NONE where there is none.
+ * bytes, the first most significant, PLIMDRONG_NONE where there is none. Bits 48 and up are zero today and will carry more:
+ * take a word apart with the macros, which mask kind and number to eight bits each.
  *
  * REFUSED, kind 1: the sheet is not well-formed or a buffer is too short. Both buffers are unchanged.
  *    1 sheet over 4,096 bytes                        place 0

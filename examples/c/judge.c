@@ -2,7 +2,7 @@
  * file could not be read, or a line could not be written, and standard error says so.
  *
  *   harness/native.sh
- *   cc -Iinclude examples/c/judge.c target/native/libjudge_c.a -o target/judge
+ *   cc -Iinclude examples/c/judge.c target/native/libplimdrong.a -o target/judge
  *   target/judge examples/first.sheet
  */
 #include "plimdrong.h"

@@ -28,7 +28,7 @@ fn sheets(n: usize, kind: u64) -> Vec<Vec<u8>> {
     for _ in 0..400_000 {
         let sheet = sized(&mut rng, n);
         let word = ordinary::judge(&sheet, &mut scratch, &mut order);
-        if word >> 40 == kind && (kind == 3 || word >> 32 & 255 == 26) {
+        if word >> 40 & 255 == kind && (kind == 3 || word >> 32 & 255 == 26) {
             all.push(sheet);
         }
         if all.len() == SHEETS {

@@ -3,7 +3,7 @@
 //! A refused sheet has no picture: its line is printed. The events are read by the second program; the verdict is the proved judge's.
 
 use plimdrong::{Answer, Judge};
-use second::sheet::{Event, Kind};
+use second::sheet::{Access, Event, Kind, Mode};
 use std::fmt::Write;
 
 const COLUMN: usize = 250;
@@ -16,18 +16,20 @@ fn bytes(b: &[u8]) -> String {
 }
 
 fn text(e: &Event) -> String {
-    let at = format!("{}..{}", e.start, e.start + e.width);
-    let mode = if e.is_init() {
-        "init"
-    } else if e.sc() {
-        "sc"
-    } else {
-        "unordered"
+    e.accesses.iter().map(access).collect::<Vec<_>>().join("; ")
+}
+
+fn access(a: &Access) -> String {
+    let at = format!("{}..{}", a.start, a.start + a.width);
+    let mode = match a.mode {
+        Mode::Init => "init",
+        Mode::Unordered => "unordered",
+        Mode::Sc => "sc",
     };
-    match e.kind {
-        Kind::Read => format!("{mode} read {at}: {}", bytes(&e.seen)),
-        Kind::Write => format!("{mode} write {at}: {}", bytes(&e.written)),
-        Kind::ReadModifyWrite => format!("sc {at}: {} to {}", bytes(&e.seen), bytes(&e.written)),
+    match a.kind {
+        Kind::Read => format!("{mode} read {at}: {}", bytes(&a.seen)),
+        Kind::Write => format!("{mode} write {at}: {}", bytes(&a.written)),
+        Kind::ReadModifyWrite => format!("sc {at}: {} to {}", bytes(&a.seen), bytes(&a.written)),
         Kind::Marker => "marker".to_string(),
     }
 }

@@ -16,7 +16,7 @@ mkdir -p "$out/corpus" "$out/seeds"
 cp "$root"/examples/litmus/*.sheet "$out/seeds/"
 (cd .. && cargo run -q -j1 --release --offline -p second --bin sheets -- files "$out/seeds" 1 1000)
 lib=$(ls "$root"/target/cargo/fuzz/*/release/libfuzz_second.a)
-clang -g -O1 -fsanitize=fuzzer,address -I "$root/include" target.c "$root/target/native/libjudge_c.a" "$lib" \
+clang -g -O1 -fsanitize=fuzzer,address -I "$root/include" target.c "$root/target/native/libplimdrong.a" "$lib" \
     -o "$out/target" -lpthread -ldl -lm
 cd "$out"
 ./target -max_total_time="$seconds" -max_len=1500 -timeout=20 -print_final_stats=1 -use_value_profile=1 corpus seeds

@@ -122,17 +122,31 @@ impl fmt::Debug for Order {
 }
 
 impl Answer {
-    /// The answer of a word and the order buffer after it, every byte of which was 255 before the call. Nothing for a
-    /// word that the judge does not give.
+    /// The answer of a word and the order buffer after it, every byte of which was 255 before the call.
+    ///
+    /// The word is taken apart as the header's macros do it: kind and number are a byte each, and bits 48 and up are not
+    /// looked at. Nothing for an unknown kind, that is one other than 1, 2 and 3, and for a number or names that its kind
+    /// does not have.
+    ///
+    /// ```
+    /// use plimdrong::Answer;
+    ///
+    /// let word = (1 << 40) + (11 << 32) + 15;
+    /// let refused = Some(Answer::Refused { number: 11, place: 15 });
+    /// assert_eq!(Answer::from_word(word, &[]), refused);
+    /// assert_eq!(Answer::from_word(word + (1 << 48), &[]), refused);
+    /// assert_eq!(Answer::from_word(4 << 40, &[]), None);
+    /// ```
     pub fn from_word(word: u64, order: &[u8]) -> Option<Answer> {
+        let kind = (word >> 40) as u8;
         let number = (word >> 32) as u8;
         let low = word as u32;
         let names = low.to_be_bytes();
-        match (word >> 40, number) {
+        match (kind, number) {
             (1, 1..=13) => Some(Answer::Refused { number, place: low }),
             (2, _) => Rule::from_names(number, names).map(|rule| Answer::Broken { rule }),
             (3, 0) if names == [255; 4] => Some(Answer::Consistent { order: Order::ended_by_255(order)?, pair: None }),
-            (3, 1) if names[2..] == [255; 2] => {
+            (3, 1) if names[2..] == [255; 2] && !names[..2].contains(&255) => {
                 Some(Answer::Consistent { order: Order::ended_by_255(order)?, pair: Some((names[0], names[1])) })
             }
             _ => None,

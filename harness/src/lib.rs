@@ -44,7 +44,7 @@ pub const MAX_SCRATCH: usize = 8192;
 pub const MAX_EVENTS: usize = 20;
 
 extern "C" {
-    // crates/judge_c: a byte slice passes as a pointer and then a length
+    // crates/plimdrong: a byte slice passes as a pointer and then a length
     fn plimdrong_judge(
         sheet: *const u8,
         sheet_len: usize,

@@ -1,5 +1,7 @@
 //! Every answer read from its word, its line and its sentences; and the litmus files.
 
+mod words;
+
 use plimdrong::{judge, refusal, Answer, Judge, Rule};
 use std::path::PathBuf;
 
@@ -67,8 +69,28 @@ fn consistent() {
     let full: Vec<u8> = (0..20).collect();
     assert!(Answer::from_word(0x300_ffff_ffff, &full).unwrap().to_string().ends_with(" 18 19"));
     assert_eq!(Answer::from_word(0x300_ffff_ffff, &[0; 21]), None);
-    for word in [0, 0x300_0102_ffff, 0x301_0102_ff00, 0x302_ffff_ffff, 0x400_0000_0000, 1 << 48 | 0x300_ffff_ffff] {
+    for word in
+        [0, 0x300_0102_ffff, 0x301_0102_ff00, 0x301_01ff_ffff, 0x301_ffff_ffff, 0x302_ffff_ffff, 0x400_0000_0000]
+    {
         assert_eq!(from(word), None, "{word:#x}");
+    }
+}
+
+/// A word is read as without its bits from 48 up, and what is read is what it says: of all kinds, 1, 2 and 3 alone.
+#[test]
+fn bits_from_48_up() {
+    let mut read = [0; 256];
+    for word in words::words() {
+        let answer = from(word);
+        assert_eq!(answer, from(word % 2u64.pow(48)), "{word:#x}");
+        if let Some(answer) = answer {
+            let parts = words::parts(word);
+            assert_eq!(words::parts_of(&answer), parts, "{word:#x}");
+            read[parts.0 as usize] += 1;
+        }
+    }
+    for (kind, count) in read.into_iter().enumerate() {
+        assert_eq!(count > 0, (1..=3).contains(&kind), "kind {kind}: {count} words read");
     }
 }
 

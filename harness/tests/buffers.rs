@@ -15,7 +15,7 @@ fn run(sheet: &[u8], scratch: usize, order: usize) -> (u64, Vec<u8>, Vec<u8>) {
 }
 
 fn number(word: u64) -> (u64, u64) {
-    (word >> 40, word >> 32 & 255)
+    (word >> 40 & 255, word >> 32 & 255)
 }
 
 #[test]

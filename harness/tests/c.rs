@@ -1,5 +1,7 @@
 //! The header in C and C++, and the C program over the litmus files.
 
+mod words;
+
 use std::io::Write;
 use std::path::PathBuf;
 use std::process::{Command, Stdio};
@@ -22,7 +24,7 @@ fn compiled_from(source: &str, compiler: &str, language: &str, standard: &str) -
         .arg(root().join("include"))
         .arg(root().join(source))
         .args(["-x", "none"])
-        .arg(root().join("target/native/libjudge_c.a"))
+        .arg(root().join("target/native/libplimdrong.a"))
         .arg("-o")
         .arg(&out)
         .output()
@@ -79,29 +81,18 @@ fn cpp() {
 }
 
 /// The header's macros read a word as crates/answer/specs/Read.antt does, of which it is proved that they tell the answer: `kindIn`, `numberIn`,
-/// `placeIn`, `byteIn`. The words: each kind with each number and names at their ends, and 20,000 of 64 bits each.
+/// `placeIn`, `byteIn`; and the crate reads the same words in the same parts.
 #[test]
 fn macros() {
-    let mut words = Vec::new();
-    for kind in 0..5u64 {
-        for number in (0..30).chain([254, 255]) {
-            for rest in [0, 1, 255, 256, 4096, 0xff00_ff00, 0x0102_0304, 0xffff_ffff, 0x01ff_ffff, 0xffff_ff01] {
-                words.push(kind << 40 | number << 32 | rest);
-            }
-        }
-    }
-    let mut random = 0x9e37_79b9_7f4a_7c15u64;
-    for _ in 0..20_000 {
-        random ^= random << 13;
-        random ^= random >> 7;
-        random ^= random << 17;
-        words.push(random);
-    }
+    let words = words::words();
     let expected: String = words
         .iter()
-        .map(|w| {
+        .map(|&w| {
             let byte = |i: u32| w / 2u64.pow(24 - 8 * i) % 256;
-            let (kind, number, place) = (w / 2u64.pow(40) % 256, w / 2u64.pow(32) % 256, w % 2u64.pow(32));
+            let (kind, number, place) = words::parts(w);
+            if let Some(answer) = plimdrong::Answer::from_word(w, &[0, 1, 255]) {
+                assert_eq!(words::parts_of(&answer), (kind, number, place), "{w:#x}");
+            }
             format!("{kind} {number} {place} {} {} {} {}\n", byte(0), byte(1), byte(2), byte(3))
         })
         .collect();
@@ -118,7 +109,11 @@ fn macros() {
         let out = program.wait_with_output().unwrap();
         writer.join().unwrap();
         assert!(out.status.success());
-        assert_eq!(String::from_utf8(out.stdout).unwrap(), expected, "{standard}");
+        let out = String::from_utf8(out.stdout).unwrap();
+        for ((word, got), expected) in words.iter().zip(out.lines()).zip(expected.lines()) {
+            assert_eq!(got, expected, "{standard}: {word:#x}");
+        }
+        assert_eq!(out.len(), expected.len(), "{standard}");
     }
 }
 

@@ -3,16 +3,16 @@ mod plain;
 use std::time::Instant;
 
 extern "C" {
-    fn plimdrong_first(inits: usize, events: usize, before: *const [u32; 32], bars: *const [u32; 1024], scratch: *mut u8, scratch_len: usize, order: *mut u8, order_len: usize) -> bool;
-    fn plimdrong_count_sets(inits: usize, events: usize, before: *const [u32; 32], bars: *const [u32; 1024], scratch: *mut u8, scratch_len: usize, limit: usize) -> usize;
+    fn orders_first(inits: usize, events: usize, before: *const [u32; 32], bars: *const [u32; 1024], scratch: *mut u8, scratch_len: usize, order: *mut u8, order_len: usize) -> bool;
+    fn orders_count_sets(inits: usize, events: usize, before: *const [u32; 32], bars: *const [u32; 1024], scratch: *mut u8, scratch_len: usize, limit: usize) -> usize;
 }
 
 fn first(p: &Task, scratch: &mut [u8], order: &mut [u8]) -> bool {
-    unsafe { plimdrong_first(INITS, p.events, &p.before, &p.bars, scratch.as_mut_ptr(), scratch.len(), order.as_mut_ptr(), order.len()) }
+    unsafe { orders_first(INITS, p.events, &p.before, &p.bars, scratch.as_mut_ptr(), scratch.len(), order.as_mut_ptr(), order.len()) }
 }
 
 fn count(p: &Task, scratch: &mut [u8]) -> usize {
-    unsafe { plimdrong_count_sets(INITS, p.events, &p.before, &p.bars, scratch.as_mut_ptr(), scratch.len(), usize::MAX) }
+    unsafe { orders_count_sets(INITS, p.events, &p.before, &p.bars, scratch.as_mut_ptr(), scratch.len(), usize::MAX) }
 }
 
 const INITS: usize = 2;

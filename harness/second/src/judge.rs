@@ -1,7 +1,9 @@
-//! Relations, rules 21 to 26, the first order and the lowest unsettled pair, each by its definition in document 01.
+//! Relations, rules 21 to 26, the first order and the lowest unsettled pair, each by its definition in document 01. 02 §11:
+//! "Overlap, equal ranges, sc, tearing and every rule are taken access by access within a region; happens-before and the
+//! total order stay common to all." So each test below is of accesses, of whatever events; a byte's number has its region.
 
 use crate::answer::{needed_scratch, Answer};
-use crate::sheet::{read, Execution};
+use crate::sheet::{read, Access, Execution, Row};
 use std::collections::HashSet;
 
 /// Up to so many events, inits included, all orders are tried in turn; above, prefixes are extended.
@@ -57,7 +59,7 @@ impl<'a> Relations<'a> {
             sync[first][second] = true;
         }
         for r in &x.rows {
-            if e[r.reader].sc() && e[r.writer].sc() && e[r.reader].equal_range(&e[r.writer]) {
+            if synchronises(ends(x, r)) {
                 sync[r.writer][r.reader] = true;
             }
         }
@@ -104,7 +106,8 @@ impl<'a> Relations<'a> {
 
         // 21: "the byte seen differs from the byte its writer wrote"
         for r in &self.x.rows {
-            if e[r.reader].seen_at(r.address) != e[r.writer].written_at(r.address) {
+            let (reader, writer) = ends(self.x, r);
+            if reader.seen_at(r.address) != writer.written_at(r.address) {
                 return broken(21, [name(r.reader), name(r.writer), None, name(r.address)]);
             }
         }
@@ -125,8 +128,7 @@ impl<'a> Relations<'a> {
             for v in 0..n {
                 if v != r.reader
                     && v != r.writer
-                    && e[v].writes()
-                    && e[v].covers(r.address)
+                    && e[v].writing(r.address).is_some()
                     && self.before[r.writer][v]
                     && self.before[v][r.reader]
                 {
@@ -134,19 +136,17 @@ impl<'a> Relations<'a> {
                 }
             }
         }
-        // 25: "R, W, V tear-free with equal ranges, W < V, and R has rows from both"
-        let has_row = |r: usize, w: usize| self.x.rows.iter().any(|row| row.reader == r && row.writer == w);
+        // 25: "R, W, V tear-free with equal ranges, W < V, and R has rows from both"; both rows of one access of R
+        let has_row = |r: usize, a: &Access, w: usize| {
+            let from = |row: &&Row| row.reader == r && row.writer == w && a.covers(row.address);
+            let whole = e[w].accesses.iter().any(|b| b.writes() && b.tear_free && b.equal_range(a));
+            whole && self.x.rows.iter().any(|row| from(&row))
+        };
         for r in 0..n {
             for w in 0..n {
                 for v in w + 1..n {
-                    if e[r].tear_free
-                        && e[w].tear_free
-                        && e[v].tear_free
-                        && e[r].equal_range(&e[w])
-                        && e[r].equal_range(&e[v])
-                        && has_row(r, w)
-                        && has_row(r, v)
-                    {
+                    let torn = |a: &Access| a.reads() && a.tear_free && has_row(r, a, w) && has_row(r, a, v);
+                    if e[r].accesses.iter().any(torn) {
                         return broken(25, [name(r), name(w), name(v), None]);
                     }
                 }
@@ -156,23 +156,25 @@ impl<'a> Relations<'a> {
     }
 
     /// For a row (R, W) and an event V: whether 01 forbids V "placed after W and before R".
-    pub fn bar(&self, r: usize, w: usize, v: usize) -> bool {
-        self.reasons(r, w, v).contains(&true)
+    pub fn bar(&self, row: &Row, v: usize) -> bool {
+        self.reasons(row, v).contains(&true)
     }
 
     /// (a), (b) and (c) for a row (R, W) and an event V.
-    pub fn reasons(&self, r: usize, w: usize, v: usize) -> [bool; 3] {
-        let e = &self.x.events;
+    pub fn reasons(&self, row: &Row, v: usize) -> [bool; 3] {
+        let (r, w) = (row.reader, row.writer);
+        let (reader, writer) = ends(self.x, row);
         // "a writing sc event V"; V is another event than R and W, or it could not stand between them
-        if v == r || v == w || !e[v].writes() || !e[v].sc() {
+        if v == r || v == w {
             return [false; 3];
         }
-        // "(a) W synchronises with R, and V, R have equal ranges"
-        let a = self.sync[w][r] && e[v].equal_range(&e[r]);
+        let equal_to = |a: &Access| self.x.events[v].accesses.iter().any(|b| b.writes() && b.sc() && b.equal_range(a));
+        // "(a) W synchronises with R, and V, R have equal ranges"; 02 §11: "by that row's own two accesses"
+        let a = synchronises((reader, writer)) && equal_to(reader);
         // "(b) W and V happen before R, W is sc, and W, V have equal ranges"
-        let b = self.before[w][r] && self.before[v][r] && e[w].sc() && e[w].equal_range(&e[v]);
+        let b = self.before[w][r] && self.before[v][r] && writer.sc() && equal_to(writer);
         // "(c) W happens before R and before V, R is sc, and V, R have equal ranges"
-        let c = self.before[w][r] && self.before[w][v] && e[r].sc() && e[v].equal_range(&e[r]);
+        let c = self.before[w][r] && self.before[w][v] && reader.sc() && equal_to(reader);
         [a, b, c]
     }
 
@@ -194,7 +196,7 @@ impl<'a> Relations<'a> {
         for row in &self.x.rows {
             let (r, w) = (row.reader, row.writer);
             for v in 0..n {
-                if place[w] < place[v] && place[v] < place[r] && self.bar(r, w, v) {
+                if place[w] < place[v] && place[v] < place[r] && self.bar(row, v) {
                     return false;
                 }
             }
@@ -250,8 +252,7 @@ impl<'a> Relations<'a> {
     /// a row whose W is placed and whose R is still to come, hence after it.
     fn may_follow(&self, held: &[bool], next: usize) -> bool {
         let all_before = (0..held.len()).all(|e| !self.before[e][next] || held[e]);
-        let barred =
-            self.x.rows.iter().any(|r| held[r.writer] && !held[r.reader] && self.bar(r.reader, r.writer, next));
+        let barred = self.x.rows.iter().any(|r| held[r.writer] && !held[r.reader] && self.bar(r, next));
         all_before && !barred
     }
 
@@ -259,20 +260,31 @@ impl<'a> Relations<'a> {
     /// not both sc with equal ranges. Orderly: no such pair. Otherwise the lowest pair is named."
     pub fn lowest_unsettled(&self) -> Option<(u8, u8)> {
         let e = &self.x.events;
+        let clash = |p: &Access, q: &Access| {
+            p.overlaps(q) && (p.writes() || q.writes()) && !(p.sc() && q.sc() && p.equal_range(q))
+        };
         for a in 0..e.len() {
             for b in a + 1..e.len() {
-                if e[a].overlaps(&e[b])
-                    && (e[a].writes() || e[b].writes())
-                    && !self.before[a][b]
-                    && !self.before[b][a]
-                    && !(e[a].sc() && e[b].sc() && e[a].equal_range(&e[b]))
-                {
+                let clashes = e[a].accesses.iter().any(|p| e[b].accesses.iter().any(|q| clash(p, q)));
+                if clashes && !self.before[a][b] && !self.before[b][a] {
                     return Some((a as u8, b as u8));
                 }
             }
         }
         None
     }
+}
+
+/// The row's own two accesses: the one that reads its byte, and the one that writes it.
+pub fn ends<'a>(x: &'a Execution, r: &Row) -> (&'a Access, &'a Access) {
+    let reader = x.events[r.reader].reading(r.address);
+    let writer = x.events[r.writer].writing(r.address);
+    (reader.expect("the reader of a row reads its byte"), writer.expect("the writer of a row writes its byte"))
+}
+
+/// "each row where both events are sc with equal ranges (same start and width)"
+fn synchronises((reader, writer): (&Access, &Access)) -> bool {
+    reader.sc() && writer.sc() && reader.equal_range(writer)
 }
 
 /// The next order of the same numbers, compared number by number; false after the last.

@@ -17,4 +17,4 @@ pub mod text;
 
 pub use answer::{judge_into, needed_scratch, Answer};
 pub use judge::judge;
-pub use sheet::{read, Event, Execution, Kind, Mode, Row};
+pub use sheet::{read, Access, Event, Execution, Kind, Mode, Row};

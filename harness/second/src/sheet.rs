@@ -31,9 +31,11 @@ pub enum Mode {
     Sc,
 }
 
+/// What an event does to one range of bytes. Sheets of edition 1 have one access an event, in region 0; 02 §11 gives an
+/// event "one or two accesses in distinct regions". Bytes are numbered through all regions, region * 64 + address, so
+/// that bytes, ranges and rows of different regions never meet.
 #[derive(Clone, Debug, PartialEq, Eq)]
-pub struct Event {
-    pub agent: u8,
+pub struct Access {
     pub kind: Kind,
     pub mode: Mode,
     pub start: usize,
@@ -43,14 +45,9 @@ pub struct Event {
     /// What was written, likewise.
     pub written: Vec<u8>,
     pub tear_free: bool,
-    /// The place of the field's tag.
-    pub place: usize,
 }
 
-impl Event {
-    pub fn is_init(&self) -> bool {
-        self.mode == Mode::Init
-    }
+impl Access {
     pub fn sc(&self) -> bool {
         self.mode == Mode::Sc
     }
@@ -64,11 +61,11 @@ impl Event {
         self.start <= address && address < self.start + self.width
     }
     /// "Two ranges overlap when they share at least one byte; equal ranges overlap too, and a marker overlaps nothing."
-    pub fn overlaps(&self, other: &Event) -> bool {
+    pub fn overlaps(&self, other: &Access) -> bool {
         (self.start..self.start + self.width).any(|a| other.covers(a))
     }
     /// "equal ranges (same start and width)"
-    pub fn equal_range(&self, other: &Event) -> bool {
+    pub fn equal_range(&self, other: &Access) -> bool {
         self.start == other.start && self.width == other.width
     }
     pub fn seen_at(&self, address: usize) -> u8 {
@@ -76,6 +73,38 @@ impl Event {
     }
     pub fn written_at(&self, address: usize) -> u8 {
         self.written[address - self.start]
+    }
+}
+
+#[derive(Clone, Debug, PartialEq, Eq)]
+pub struct Event {
+    pub agent: u8,
+    pub accesses: Vec<Access>,
+    /// The place of the field's tag.
+    pub place: usize,
+}
+
+impl Event {
+    /// 02 §11: "An event's accesses are all init or none is."
+    pub fn is_init(&self) -> bool {
+        self.accesses.iter().all(|a| a.mode == Mode::Init)
+    }
+    pub fn is_marker(&self) -> bool {
+        self.accesses.iter().any(|a| a.kind == Kind::Marker)
+    }
+    pub fn reads(&self) -> bool {
+        self.accesses.iter().any(|a| a.reads())
+    }
+    pub fn overlaps(&self, other: &Event) -> bool {
+        self.accesses.iter().any(|a| other.accesses.iter().any(|b| a.overlaps(b)))
+    }
+    /// The access that reads this byte, if any.
+    pub fn reading(&self, address: usize) -> Option<&Access> {
+        self.accesses.iter().find(|a| a.reads() && a.covers(address))
+    }
+    /// The access that writes this byte, if any.
+    pub fn writing(&self, address: usize) -> Option<&Access> {
+        self.accesses.iter().find(|a| a.writes() && a.covers(address))
     }
 }
 
@@ -166,12 +195,11 @@ pub fn read(sheet: &[u8]) -> Result<Execution, Refusal> {
     }
     // "a read byte without a row": 11 at the tag of the lowest such event
     for (number, e) in x.events.iter().enumerate() {
-        if !e.reads() {
-            continue;
-        }
-        for a in e.start..e.start + e.width {
-            if !x.rows.iter().any(|r| r.reader == number && r.address == a) {
-                return Err((11, e.place));
+        for access in e.accesses.iter().filter(|a| a.reads()) {
+            for a in access.start..access.start + access.width {
+                if !x.rows.iter().any(|r| r.reader == number && r.address == a) {
+                    return Err((11, e.place));
+                }
             }
         }
     }
@@ -215,8 +243,8 @@ fn event(x: &mut Execution, value: &[u8], place: usize) -> Result<(), u8> {
         2 => Mode::Sc,
         _ => return Err(6),
     };
-    let mut e = Event { agent, kind, mode, start, width, seen: vec![], written: vec![], tear_free: false, place };
-    if !content(x, &e) {
+    let mut a = Access { kind, mode, start, width, seen: vec![], written: vec![], tear_free: false };
+    if !content(x, agent, &a) {
         return Err(6);
     }
     // "Data is width bytes for a read (what was seen) and a write; twice the width for kind 3 (seen, then written);
@@ -231,62 +259,62 @@ fn event(x: &mut Execution, value: &[u8], place: usize) -> Result<(), u8> {
     }
     // "fifth init, 17th other event"
     let (inits, others) = (x.inits(), x.others());
-    if (e.is_init() && inits == MAX_INITS) || (!e.is_init() && others == MAX_OTHERS) {
+    if (mode == Mode::Init && inits == MAX_INITS) || (mode != Mode::Init && others == MAX_OTHERS) {
         return Err(9);
     }
     match kind {
-        Kind::Read => e.seen = data.to_vec(),
-        Kind::Write => e.written = data.to_vec(),
+        Kind::Read => a.seen = data.to_vec(),
+        Kind::Write => a.written = data.to_vec(),
         Kind::ReadModifyWrite => {
-            e.seen = data[..width].to_vec();
-            e.written = data[width..].to_vec();
+            a.seen = data[..width].to_vec();
+            a.written = data[width..].to_vec();
         }
         Kind::Marker => {}
     }
-    e.tear_free = tear_free(&e);
-    x.events.push(e);
+    a.tear_free = tear_free(&a);
+    x.events.push(Event { agent, accesses: vec![a], place });
     Ok(())
 }
 
 /// What 01 asks of an event's content, given the head and the events before it.
-fn content(x: &Execution, e: &Event) -> bool {
+fn content(x: &Execution, agent: u8, a: &Access) -> bool {
     // "Start plus width is at most the memory size."
-    if e.start + e.width > x.size {
+    if a.start + a.width > x.size {
         return false;
     }
-    if e.mode == Mode::Init {
+    if a.mode == Mode::Init {
         // "Init: agent 0, kind 2, mode 0, width 1 to 64. Inits stand before all other events and their ranges are
         // disjoint."
-        return e.agent == 0
-            && e.kind == Kind::Write
-            && (1..=64).contains(&e.width)
-            && x.events.iter().all(|d| d.is_init() && !d.overlaps(e));
+        return agent == 0
+            && a.kind == Kind::Write
+            && (1..=64).contains(&a.width)
+            && x.events.iter().all(|d| d.is_init() && !d.accesses.iter().any(|b| b.overlaps(a)));
     }
     // "Others: agent 1 to the head's count"
-    if !(1..=x.agents).contains(&e.agent) {
+    if !(1..=x.agents).contains(&agent) {
         return false;
     }
-    match e.kind {
+    match a.kind {
         // "Reads and writes have mode 1 or 2; kind 3 has mode 2"
-        Kind::Read | Kind::Write => ranged(e),
-        Kind::ReadModifyWrite => e.sc() && ranged(e),
+        Kind::Read | Kind::Write => ranged(a),
+        Kind::ReadModifyWrite => a.sc() && ranged(a),
         // "Marker: mode 2, start 0, width 0."
-        Kind::Marker => e.sc() && e.start == 0 && e.width == 0,
+        Kind::Marker => a.sc() && a.start == 0 && a.width == 0,
     }
 }
 
 /// "these three have widths 1, 2, 4, 8, and in mode 2 a start divisible by the width."
-fn ranged(e: &Event) -> bool {
-    matches!(e.width, 1 | 2 | 4 | 8) && (!e.sc() || e.start.is_multiple_of(e.width))
+fn ranged(a: &Access) -> bool {
+    matches!(a.width, 1 | 2 | 4 | 8) && (!a.sc() || a.start.is_multiple_of(a.width))
 }
 
 /// "Tear-free: every sc event; an unordered event of width 1, 2 or 4 whose start is divisible by its width. Inits are
 /// not."
-fn tear_free(e: &Event) -> bool {
-    match e.mode {
+fn tear_free(a: &Access) -> bool {
+    match a.mode {
         Mode::Init => false,
         Mode::Sc => true,
-        Mode::Unordered => matches!(e.width, 1 | 2 | 4) && e.start.is_multiple_of(e.width),
+        Mode::Unordered => matches!(a.width, 1 | 2 | 4) && a.start.is_multiple_of(a.width),
     }
 }
 
@@ -300,7 +328,7 @@ fn row(x: &mut Execution, value: &[u8]) -> Result<(), u8> {
     let (Some(reader), Some(writer)) = (x.events.get(r.reader), x.events.get(r.writer)) else {
         return Err(7);
     };
-    let fit = reader.reads() && reader.covers(r.address) && writer.writes() && writer.covers(r.address);
+    let fit = reader.reading(r.address).is_some() && writer.writing(r.address).is_some();
     if !fit || r.reader == r.writer {
         return Err(7);
     }
@@ -322,7 +350,7 @@ fn pair(x: &mut Execution, value: &[u8]) -> Result<(), u8> {
     let (Some(first), Some(second)) = (x.events.get(p.0), x.events.get(p.1)) else {
         return Err(8);
     };
-    if first.kind != Kind::Marker || second.kind != Kind::Marker || first.agent == second.agent {
+    if !first.is_marker() || !second.is_marker() || first.agent == second.agent {
         return Err(8);
     }
     if x.pairs.last().is_some_and(|last| p <= *last) {

@@ -4,7 +4,7 @@ use second::judge::{next_order, Relations};
 use second::random::{case, damaged, whole, Rng, WAYS};
 use second::sheet::{MAX_EVENTS, MAX_SCRATCH};
 use second::text::{from_text, to_text};
-use second::{judge, judge_into, needed_scratch, read, Answer};
+use second::{judge, judge_into, needed_scratch, read, Answer, Row};
 use std::collections::BTreeMap;
 
 const EXAMPLE: [u8; 30] = [1, 0, 3, 1, 1, 1, 2, 0, 6, 0, 2, 0, 0, 1, 0, 2, 0, 6, 1, 1, 1, 0, 1, 0, 3, 0, 3, 1, 0, 0];
@@ -215,14 +215,15 @@ fn each_reason_decides_somewhere() {
         }
         let first = m.first_of_all_orders();
         for (left_out, count) in decides.iter_mut().enumerate() {
-            let bar = |r, w, v| m.reasons(r, w, v).iter().enumerate().any(|(i, &reason)| reason && i != left_out);
+            let bar = |row: &Row, v| m.reasons(row, v).iter().enumerate().any(|(i, &reason)| reason && i != left_out);
             let mut order: Vec<usize> = (0..x.events.len()).collect();
             let found = loop {
                 let place = |e| order.iter().position(|&o| o == e).unwrap();
                 let n = order.len();
                 let kept = (0..n).all(|a| (0..n).all(|b| !m.before[a][b] || place(a) < place(b)));
-                let barred = |r, w| (0..n).any(|v| place(w) < place(v) && place(v) < place(r) && bar(r, w, v));
-                if kept && !x.rows.iter().any(|row| barred(row.reader, row.writer)) {
+                let between = |row: &Row, v| place(row.writer) < place(v) && place(v) < place(row.reader);
+                let barred = |row: &Row| (0..n).any(|v| between(row, v) && bar(row, v));
+                if kept && !x.rows.iter().any(barred) {
                     break Some(order.iter().map(|&e| e as u8).collect::<Vec<u8>>());
                 }
                 if !next_order(&mut order) {

@@ -4,7 +4,7 @@
 --     answer-in             answerIn (packed x) ≡ x, where no name is 255
 --     packed-unique         so two answers with one word are one answer
 use mathlib.Core.Path.{_≡_, refl, sym, ap, _∙_}
-use Prim.Native.Nat.{ℕ, _*_, _+_, _^_, _/_, _%_, _<_}
+use Prim.Native.Nat.{ℕ, _*_, _+_, _^_, _<_}
 use native.Mathlib.Omega.{arith}
 use borrow.Author.Tests.{ne-eqb}
 use lib.Dec.{eqb}

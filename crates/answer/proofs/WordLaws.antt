@@ -5,7 +5,7 @@
 --     packed-kind, packed-number, packed-rest    the word's parts are the answer's
 -- Assumes nothing.
 use mathlib.Core.Path.{_≡_}
-use Prim.Native.Nat.{ℕ, _+_, _*_, _^_, _/_, _%_, _<_}
+use Prim.Native.Nat.{ℕ, _^_, _/_, _%_, _<_}
 use native.Mathlib.Omega.{arith}
 use Rattle.answer.specs.declared.Name.{Name}
 use Rattle.answer.specs.declared.Name.the-variants.{Number, None}

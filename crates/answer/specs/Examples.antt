@@ -6,7 +6,6 @@ use mathlib.Core.List.{List, [], _∷_}
 use Prim.Native.Nat.{ℕ}
 use Rattle.answer.specs.declared.Names.the-variants.{Event, Between}
 use Rattle.answer.specs.declared.Settled.the-variants.{Orderly, Unsettled}
-use Rattle.answer.specs.declared.Answer.{Answer}
 use Rattle.answer.specs.declared.Answer.the-variants.{Refused, Broken, Consistent}
 use Rattle.answer.specs.Word.{packed}
 

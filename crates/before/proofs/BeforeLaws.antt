@@ -6,30 +6,29 @@
 --     rows-none, rows-more, rows-length, pairs-none, pairs-more, pairs-length, steps-length     a loop's turn, and lengths
 --     turn-none, turn-more, turn-length, turned-mem     the columns
 --     ordered-unique                             two conforming results are equal
-use mathlib.Core.Path.{_≡_, refl, sym, ap, _∙_, subst}
+use mathlib.Core.Path.{_≡_, refl, sym, ap, _∙_}
 use mathlib.Core.Bool.{Bool, true, false, cond, not}
 use mathlib.Core.List.{List}
-use Prim.Native.Nat.{ℕ, zero, suc, _+_, _-_, _*_, _%_, _^_, _<_, _≤_, min}
+use Prim.Native.Nat.{ℕ, zero, suc, _+_, _-_, _%_, _^_, _<_, _≤_, min}
 use native.Mathlib.Omega.{arith}
-use native.Mathlib.Decide.{ℕ-discrete, decLt}
-use borrow.Author.Tests.{eq-eqb, ne-eqb, lt-ltb, le-ltb, ltb-true}
+use native.Mathlib.Decide.{decLt}
+use borrow.Author.Tests.{lt-ltb, le-ltb, ltb-true}
 use lib.Bits.{bitAnd}
 use lib.Dec.{eqb, ltb}
 use lib.ListN.{length, getD, replicate, length-replicate, getD-replicate}
 use Rattle.basis.specs.Test.{_and_, _or_, non}
-use Rattle.basis.proofs.LoopLaws.{and-holds, and-fails, and-both, or-none, or-fails, non-holds}
+use Rattle.basis.proofs.LoopLaws.{and-fails, and-both, or-none, non-holds}
 use Rattle.basis.proofs.BoolLaws.{and-assoc, or-assoc, non-fails, eqb-swap, below-next, amp-and, not-non}
 use Rattle.format.specs.declared.Row.{Row}
-use Rattle.format.specs.declared.Pair.{Pair}
 use Rattle.sets.specs.Mask.{slots, mem, full}
 use Rattle.sets.specs.Closure.{taken}
 use Rattle.sets.proofs.BoolLaws.{by-bool, false-of}
-use Rattle.sets.proofs.MaskLaws.{mem-beyond, mem-empty, mem-diff, mem-full, full-has, lt-of-members, ext-all}
+use Rattle.sets.proofs.MaskLaws.{mem-empty, mem-diff, mem-full, full-has, lt-of-members, ext-all}
 use Rattle.sets.proofs.ClosureLaws.{closed-unique}
 use Rattle.cells.specs.Walk.{upTo, picked}
 use Rattle.cells.specs.Cells.{gaining, scatter, placing}
 use Rattle.cells.proofs.WalkLaws.{upTo-more, mem-picked}
-use Rattle.cells.proofs.CellsLaws.{gaining-length, gaining-mem, scatter-length, scatter-mem, placing-none, placing-length}
+use Rattle.cells.proofs.CellsLaws.{gaining-length, gaining-mem, scatter-length, scatter-mem, placing-length}
 use Rattle.tables.specs.Tables.{agentRoom, agentIn, rowIn, pairIn}
 use Rattle.tables.proofs.TablesLaws.{agent-place}
 use Rattle.before.specs.Before.{metIn, laterIn, ownIn, agentsIn, behindIn, ownBy, syncIn, rowGains, rowsIn, pairGains, pairsIn, stepsIn, turnAt, turnedIn, Ordered}

@@ -3,11 +3,11 @@
 --     grown-mem            masks that each number of a loop adds to
 --     owns-mem, rows-mem, pairs-mem      what two events make by themselves; what rows and pairs add
 --     steps-mem            from empty masks: stepsIn holds exactly the steps that stepIn tests
-use mathlib.Core.Path.{_≡_, refl, sym, ap, _∙_, subst}
+use mathlib.Core.Path.{_≡_, sym, ap, _∙_}
 use mathlib.Core.Bool.{Bool, true, false, cond}
-use mathlib.Core.List.{List, [], _∷_, _++_}
-use Prim.Native.Nat.{ℕ, zero, suc, _+_, _%_, _<_, _≤_}
-use native.Mathlib.Nat.{mod-eq-of-lt, add-suc, zero-add}
+use mathlib.Core.List.{List}
+use Prim.Native.Nat.{ℕ, zero, suc, _%_, _<_, _≤_}
+use native.Mathlib.Nat.{mod-eq-of-lt}
 use native.Mathlib.Omega.{arith}
 use native.Mathlib.Decide.{decLt}
 use borrow.Author.Tests.{lt-ltb, le-ltb}
@@ -16,8 +16,6 @@ use lib.ListN.{length, getD, replicate, length-replicate, getD-replicate, List·
 use Rattle.basis.specs.Test.{_and_, _or_, any, from}
 use Rattle.basis.proofs.LoopLaws.{and-holds, and-fails, or-none}
 use Rattle.basis.proofs.BoolLaws.{and-false, and-true, or-assoc}
-use Rattle.format.specs.declared.Row.{Row}
-use Rattle.format.specs.declared.Pair.{Pair}
 use Rattle.sets.specs.Mask.{slots, mem}
 use Rattle.sets.proofs.BoolLaws.{by-bool}
 use Rattle.sets.proofs.MaskLaws.{mem-empty}
@@ -25,11 +23,11 @@ use Rattle.cells.specs.Walk.{upTo, picked}
 use Rattle.cells.specs.Cells.{gaining, placing}
 use Rattle.cells.proofs.WalkLaws.{mem-picked}
 use Rattle.cells.proofs.CellsLaws.{gaining-mem, gaining-length, placing-length, placing-at, placing-beyond}
-use Rattle.basis.proofs.FindLaws.{any-snoc, any-next}
+use Rattle.basis.proofs.FindLaws.{any-next}
 use Rattle.tables.specs.Tables.{agentIn, rowIn, pairIn}
 use Rattle.tables.proofs.TablesLaws.{reader-slot, writer-slot, first-slot, second-slot}
 use Rattle.before.specs.Before.{metIn, laterIn, ownIn, syncIn, rowGains, rowsIn, pairGains, pairsIn, stepsIn, directIn, rowStep, pairStep, stepIn}
-use Rattle.before.proofs.BeforeLaws.{own-init, own-other, row-gains, row-keeps, row-length, rows-length, pairs-length}
+use Rattle.before.proofs.BeforeLaws.{own-init, own-other, row-gains, row-keeps, row-length, rows-length}
 
 -- ---- masks that each number of a loop adds to
 

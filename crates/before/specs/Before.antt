@@ -12,15 +12,15 @@
 use mathlib.Core.Path.{_≡_}
 use mathlib.Core.Bool.{Bool, cond}
 use mathlib.Core.List.{List}
-use Prim.Native.Nat.{ℕ, _+_, _-_, _*_, _%_, _^_, min}
+use Prim.Native.Nat.{ℕ, _+_, _-_, _%_, _^_, min}
 use lib.Bits.{bitAnd}
 use lib.Dec.{eqb, ltb}
-use lib.ListN.{getD, set}
+use lib.ListN.{getD}
 use Rattle.basis.specs.Test.{_and_, _or_, non, any, from}
 use Rattle.format.specs.declared.Row.{Row}
 use Rattle.format.specs.declared.Pair.{Pair}
 use Rattle.format.specs.Shape.{overlap, bothSc}
-use Rattle.sets.specs.Mask.{slots, mem, full}
+use Rattle.sets.specs.Mask.{slots, full}
 use Rattle.sets.specs.Closure.{taken, Closed}
 use Rattle.cells.specs.Walk.{upTo, picked}
 use Rattle.cells.specs.Cells.{gaining, scatter, placing}

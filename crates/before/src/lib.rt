@@ -5,7 +5,6 @@ use cells::place;
 use cells::scatter;
 use format::Pair;
 use format::Row;
-use format::Shape;
 use format::tests;
 use sets::SLOTS;
 use sets::least;

@@ -11,17 +11,17 @@ use mathlib.Core.List.{List}
 use Prim.Native.Nat.{ℕ, zero, suc, _+_, _*_, _≤_, _<_}
 use native.Mathlib.Omega.{arith}
 use native.Mathlib.Decide.{ℕ-discrete, decLt}
-use borrow.Author.Tests.{eq-eqb, ne-eqb, eqb-true, lt-ltb, le-ltb}
+use borrow.Author.Tests.{eq-eqb, eqb-true, le-ltb}
 use lib.Dec.{eqb, ltb}
 use lib.ListN.{length, getD, set, length-set}
 use lib.Seq.{getD-set-same, getD-set-other, set-out}
 use Rattle.basis.specs.Test.{_and_, _or_}
-use Rattle.basis.proofs.LoopLaws.{and-holds, and-both, or-holds, or-fails, or-either, or-none, or-second, and-fails}
-use Rattle.basis.proofs.BoolLaws.{and-false, or-assoc, and-swap, below-next}
+use Rattle.basis.proofs.LoopLaws.{and-holds, and-both, or-holds, or-either, or-none, or-second, and-fails}
+use Rattle.basis.proofs.BoolLaws.{or-assoc, and-swap, below-next}
 use Rattle.cells.proofs.WalkLaws.{upTo-more}
 use Rattle.sets.specs.Mask.{slots, mem, Has, insert}
-use Rattle.sets.proofs.BoolLaws.{by-bool, bool-ext, false-of}
-use Rattle.sets.proofs.MaskLaws.{insert-new, insert-old, insert-cases, mem-lt}
+use Rattle.sets.proofs.BoolLaws.{by-bool, bool-ext}
+use Rattle.sets.proofs.MaskLaws.{insert-new, insert-old, insert-cases}
 use Rattle.cells.specs.Walk.{upTo, onlyOf, over}
 use Rattle.cells.specs.Cells.{gaining, gainAt, spread, gainOne, scatter, putAt, placing}
 

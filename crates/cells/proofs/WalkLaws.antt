@@ -7,19 +7,19 @@
 --     over-picked                               the same by a loop over the members of a set that has all that pass
 use mathlib.Core.Path.{_≡_, refl, sym, ap, _∙_, subst}
 use mathlib.Core.Bool.{Bool, true, false, cond, not, _&&_}
-use mathlib.Core.Logic.{_⊎_, inl, inr, ⊎-elim}
-use Prim.Native.Nat.{ℕ, zero, suc, _+_, _-_, _%_, _^_, _≤_, _<_}
-use native.Mathlib.Nat.{add-suc, mod-eq-of-lt}
+use mathlib.Core.Logic.{_⊎_, ⊎-elim}
+use Prim.Native.Nat.{ℕ, zero, suc, _+_, _-_, _^_, _≤_, _<_}
+use native.Mathlib.Nat.{add-suc}
 use native.Mathlib.Numerals.{add-one}
 use native.Mathlib.Omega.{arith}
 use native.Mathlib.Decide.{ℕ-discrete, decLt}
-use borrow.Author.Tests.{eq-eqb, ne-eqb, eqb-true, lt-ltb, le-ltb, ltb-true}
+use borrow.Author.Tests.{eq-eqb, lt-ltb, ltb-true}
 use lib.Dec.{eqb, ltb}
 use Rattle.basis.specs.Test.{_and_}
-use Rattle.basis.proofs.LoopLaws.{and-holds, and-fails, and-both}
+use Rattle.basis.proofs.LoopLaws.{and-holds, and-both}
 use Rattle.sets.specs.Mask.{slots, mem, Has, insert, remove, Lowest}
-use Rattle.sets.proofs.BoolLaws.{by-bool, bool-ext, not-both-ways, false-of}
-use Rattle.sets.proofs.MaskLaws.{mem-empty, mem-lt, mem-remove, mem-insert, remove-old, remove-cases, remove-lt, insert-cases, insert-old, insert-new, insert-lt, lt-of-members, ext-all}
+use Rattle.sets.proofs.BoolLaws.{by-bool, bool-ext, not-both-ways}
+use Rattle.sets.proofs.MaskLaws.{mem-empty, mem-lt, mem-remove, remove-old, remove-cases, remove-lt, insert-cases, insert-old, insert-new, lt-of-members, ext-all}
 use Rattle.cells.specs.Walk.{upTo, onlyOf, over, taking, picked}
 
 module _ {A : Type 0} where

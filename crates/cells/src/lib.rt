@@ -1,7 +1,7 @@
 // Tables of masks, of any length. No function has a `requires`: what lies beyond the end is not written.
 ghost use mathlib.Core.Path.{_≡_};
 ghost use mathlib.Core.Bool.{cond};
-ghost use Prim.Native.Nat.{min, _%_};
+ghost use Prim.Native.Nat.{_%_};
 ghost use lib.ListN.{set};
 ghost use Rattle.sets.specs.Mask.{slots, insert};
 ghost use Rattle.cells.specs.Cells.{gaining, spread, scatter};

@@ -4,20 +4,20 @@
 --     barred          the table of masks holds the model's bars
 use mathlib.Core.Path.{_≡_, refl, sym, ap, _∙_, subst}
 use mathlib.Core.Bool.{Bool, true, false}
-use mathlib.Core.Logic.{_⊎_, inl, inr, ⊎-elim}
-use mathlib.Core.List.{List, [], _∷_, List·Memᴰ, List·Memᴰ·head, List·Memᴰ·tail}
-use Prim.Native.Nat.{ℕ, zero, suc, _+_, _*_, _<_, _≤_}
+use mathlib.Core.Logic.{_⊎_, ⊎-elim}
+use mathlib.Core.List.{List, List·Memᴰ}
+use Prim.Native.Nat.{ℕ, suc, _+_, _*_, _<_, _≤_}
 use native.Mathlib.Omega.{arith}
-use borrow.Author.Tests.{leb-true, lt-ltb, ltb-false, ltb-true, ne-eqb}
-use lib.Dec.{T, eqb, leb, ltb}
-use lib.ListN.{length, getD, replicate}
+use borrow.Author.Tests.{lt-ltb, ltb-false}
+use lib.Dec.{T, eqb, ltb}
+use lib.ListN.{getD, replicate}
 use Rattle.basis.specs.Test.{_and_, _or_, non, any, each, from}
 use Rattle.basis.proofs.TestLaws.{and-elim, and-intro, or-cases, or-left, or-right, same-test}
-use Rattle.basis.proofs.LoopLaws.{true-T, T-true, and-holds, and-fails}
+use Rattle.basis.proofs.LoopLaws.{T-true, and-holds, and-fails}
 use Rattle.format.specs.declared.Shape.{Shape}
 use Rattle.format.specs.declared.Row.{Row}
 use Rattle.format.specs.Shape.{writes, sc, covers, equal, bothSc}
-use Rattle.format.specs.Event.{Event, shapeAt, readsAt, writesAt}
+use Rattle.format.specs.Event.{Event, shapeAt, writesAt}
 use Rattle.format.specs.Execution.{Execution, event}
 use Rattle.format.proofs.EventLaws.{writesAt-nobody}
 use Rattle.sets.specs.Mask.{slots, mem}

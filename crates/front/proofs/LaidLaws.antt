@@ -4,7 +4,7 @@
 --     laid-rowed, laid-seen            the rows, with what was seen and written
 --     pairs-few, laid-paired           the pairs: each has a place
 use mathlib.Core.Path.{_≡_, refl, sym, ap, ap₂, _∙_, subst}
-use mathlib.Core.List.{List, [], _∷_, List·Memᴰ, List·Memᴰ·head, List·Memᴰ·tail, List·Memᴰ·eq-of-singleton}
+use mathlib.Core.List.{List, [], _∷_, List·Memᴰ, List·Memᴰ·head, List·Memᴰ·tail}
 use Prim.Native.Nat.{ℕ, zero, suc, _+_, _*_, _%_, _<_, _≤_, min}
 use native.Mathlib.Nat.{mod-eq-of-lt}
 use native.Mathlib.Omega.{arith}
@@ -19,8 +19,8 @@ use Rattle.format.specs.declared.Shape.{Shape}
 use Rattle.format.specs.declared.Row.{Row}
 use Rattle.format.specs.declared.Pair.{Pair}
 use Rattle.format.specs.Shape.{reads, writes, covers}
-use Rattle.format.specs.Event.{Access, Event, shapeAt, readsAt, writesAt, saw, wrote}
-use Rattle.format.specs.Execution.{Execution, eventNo, event, noRow, noPair}
+use Rattle.format.specs.Event.{Event, readsAt, writesAt, saw, wrote}
+use Rattle.format.specs.Execution.{event, noRow, noPair}
 use Rattle.format.specs.Field.{valueAt}
 use Rattle.format.specs.Layout.{agentOf, shapeOf, accessOf, seenOf, writtenOf, rowGap, pairGap}
 use Rattle.format.proofs.EventLaws.{one, readsAt-one, writesAt-one}
@@ -30,9 +30,8 @@ use Rattle.sheet.specs.Promise.{WellEvent, WellFormed}
 use Rattle.sheet.proofs.HandedLaws.{events-count, event-at, rows-count, row-at, pairs-count, pair-at}
 use Rattle.sets.specs.Mask.{slots}
 use Rattle.model.proofs.Sound.{Sound, sound}
-use Rattle.model.proofs.EventsLaws.{shape-mem, reads-covers}
 use Rattle.model.proofs.HappensLaws.{reader-inside, writer-inside}
-use Rattle.tables.specs.Tables.{accesses, columns, agentIn, shapeIn, rowRoom, rowCells, rowIn, seenIn, wroteIn, pairRoom, pairIn, agentRoom}
+use Rattle.tables.specs.Tables.{accesses, columns, agentIn, shapeIn, rowRoom, rowCells, rowIn, pairRoom, pairIn, agentRoom}
 use Rattle.lay.specs.Lay.{eventsPut, rowsPut, pairsPut, laidShape, dataAt, passed, seenAt, wroteAt, Layered}
 use Rattle.lay.proofs.CellLaws.{agent-at, kind-at, mode-at, start-at, width-at, tear-at, width-beyond, second-kept, reader-at, address-at, writer-at, seen-at, wrote-at, first-at, second-at}
 use Rattle.front.specs.Tabled.{Agents, Rowed, Paired, Seen}

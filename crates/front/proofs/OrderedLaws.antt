@@ -7,12 +7,12 @@
 use mathlib.Core.Path.{_≡_, refl, sym, ap, ap₂, _∙_, subst}
 use mathlib.Core.Bool.{Bool, true, false, cond}
 use mathlib.Core.Logic.{_⊎_, inl, inr, ⊎-elim}
-use mathlib.Core.List.{List, [], _∷_, List·Memᴰ, List·Memᴰ·head, List·Memᴰ·tail}
-use Prim.Native.Nat.{ℕ, zero, suc, _+_, _*_, _%_, _<_, _≤_}
+use mathlib.Core.List.{List, _∷_, List·Memᴰ, List·Memᴰ·head, List·Memᴰ·tail}
+use Prim.Native.Nat.{ℕ, zero, suc, _+_, _*_, _<_, _≤_}
 use native.Mathlib.Nat.{mod-eq-of-lt}
 use native.Mathlib.Omega.{arith}
 use native.Mathlib.Decide.{decLt}
-use borrow.Author.Tests.{leb-true, ltb-true, le-leb, lt-ltb, le-ltb}
+use borrow.Author.Tests.{ltb-true, le-leb, lt-ltb, le-ltb}
 use lib.Dec.{T, eqb, leb, ltb, eqb·suc-zero}
 use lib.ListN.{length, getD, replicate, length-replicate}
 use Rattle.basis.specs.Test.{_and_, _or_, non, any, each, from}
@@ -28,11 +28,8 @@ use Rattle.sets.specs.Mask.{slots, mem}
 use Rattle.sets.specs.Closure.{taken, Closed}
 use Rattle.sets.proofs.BoolLaws.{by-bool}
 use Rattle.sets.proofs.MaskLaws.{mem-empty, ext-all}
-use Rattle.cells.specs.Walk.{picked}
-use Rattle.cells.proofs.WalkLaws.{mem-picked}
 use Rattle.basis.proofs.FindLaws.{any-same, any-each}
 use Rattle.basis.proofs.BoolLaws.{and-false}
-use Rattle.cells.proofs.CellsLaws.{placing-at, placing-beyond}
 use Rattle.model.specs.Events.{anyTwo, atRow}
 use Rattle.model.specs.Happens.{agentOrder, rowSyncs, synchronises, initFirst, step, Tests}
 use Rattle.model.proofs.ShapeLaws.{both-cover}
@@ -41,7 +38,7 @@ use Rattle.model.proofs.Sound.{Sound}
 use Rattle.model.proofs.HappensLaws.{step-inside, happens-inside, closed-tests}
 use Rattle.tables.specs.Tables.{agentIn, shapeIn, atIn, rowIn, pairIn}
 use Rattle.tables.proofs.TablesLaws.{reader-slot, writer-slot}
-use Rattle.before.specs.Before.{meetsIn, metIn, laterIn, syncIn, directIn, rowStep, pairStep, stepIn, stepsIn, turnedIn, Ordered}
+use Rattle.before.specs.Before.{meetsIn, metIn, laterIn, syncIn, directIn, rowStep, pairStep, stepIn, stepsIn, Ordered}
 use Rattle.before.proofs.BeforeLaws.{steps-length, turned-mem}
 use Rattle.before.proofs.StepsLaws.{empty-at, steps-mem}
 use Rattle.front.specs.Tabled.{Tabled, Agents, Rowed, Paired, hbOf, Turned}

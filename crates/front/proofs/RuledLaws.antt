@@ -4,8 +4,8 @@
 use mathlib.Core.Path.{_≡_, refl, sym, ap, _∙_, subst}
 use mathlib.Core.Bool.{Bool, true, false, cond}
 use mathlib.Core.List.{List, [], _∷_, List·Memᴰ}
-use mathlib.Core.Option.{Option, none, some}
-use Prim.Native.Nat.{ℕ, _+_, _%_, _<_, _≤_}
+use mathlib.Core.Option.{none, some}
+use Prim.Native.Nat.{ℕ, _<_}
 use native.Mathlib.Nat.{mod-eq-of-lt}
 use native.Mathlib.Omega.{arith}
 use borrow.Author.Tests.{ltb-true, ltb-false}
@@ -18,12 +18,11 @@ use Rattle.basis.proofs.BoolLaws.{amp-and, and-swap}
 use Rattle.basis.proofs.FindLaws.{find-same, find-at, find-no, find-firsts}
 use Rattle.format.specs.declared.Row.{Row}
 use Rattle.format.specs.Shape.{covers, writes}
-use Rattle.format.specs.Event.{writesAt, saw, wrote}
+use Rattle.format.specs.Event.{writesAt, wrote}
 use Rattle.format.specs.Execution.{Execution, event}
 use Rattle.format.proofs.EventLaws.{writesAt-nobody}
 use Rattle.answer.specs.declared.Names.{Names}
 use Rattle.answer.specs.declared.Names.the-variants.{Row as OfRow, Event as OfEvent, Between}
-use Rattle.answer.specs.declared.Rule.{Rule}
 use Rattle.answer.specs.declared.Rule.the-variants.{Kept, Breach}
 use Rattle.answer.specs.Rules.{named}
 use Rattle.sets.specs.Mask.{slots, mem}
@@ -33,7 +32,7 @@ use Rattle.cells.proofs.FirstLaws.{first-of, first-find}
 use Rattle.model.specs.Events.{numbers}
 use Rattle.model.specs.Rules.{Fault, faulty, breaks21, breaks22, breaks23, breaks24, fault21, fault22, fault23, fault24}
 use Rattle.model.proofs.EventsLaws.{event-inside}
-use Rattle.tables.specs.Tables.{writesIn, rowIn, seenIn, wroteIn}
+use Rattle.tables.specs.Tables.{writesIn, rowIn}
 use Rattle.tables.proofs.TablesLaws.{reader-slot, writer-slot}
 use Rattle.rules.specs.Rules.{unlikeIn, cyclicIn, turnedIn, betweenIn, overIn, rule21In, rule22In, rule23In, rule24In}
 use Rattle.front.specs.Tabled.{Tabled, Rowed, Seen, hbOf, Turned, foundOf}

@@ -2,16 +2,15 @@
 --     Sourced t q k w j               row j is untorn, its reader's access stands in slot k, and w is its writer
 --     sources-back, sources-new       a source is one by some row of the first n, and each such row makes one
 --     sources-iff                     both, from empty masks
-use mathlib.Core.Path.{_≡_, refl, sym, ap, _∙_, subst}
-use mathlib.Core.Bool.{Bool, true, false}
+use mathlib.Core.Path.{_≡_, sym, ap, _∙_, subst}
+use mathlib.Core.Bool.{true, false}
 use mathlib.Core.Logic.{_⊎_, inl, inr, ⊎-elim, _↔_}
 use mathlib.Core.List.{List}
-use Prim.Native.Nat.{ℕ, zero, suc, _+_, _%_, _<_, _≤_}
+use Prim.Native.Nat.{ℕ, zero, suc, _%_, _<_}
 use native.Mathlib.Nat.{mod-eq-of-lt}
 use native.Mathlib.Omega.{arith}
 use native.Mathlib.Decide.{ℕ-discrete}
 use lib.ListN.{length, getD, replicate, length-replicate, getD-replicate}
-use Rattle.format.specs.declared.Row.{Row}
 use Rattle.sets.specs.Mask.{slots, mem, Has}
 use Rattle.sets.proofs.BoolLaws.{by-bool, not-both-ways}
 use Rattle.sets.proofs.MaskLaws.{mem-empty}

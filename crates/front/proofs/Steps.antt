@@ -1,9 +1,5 @@
 -- The promises of specs/Steps.antt: the steps over the tables give what the model says. Assumes nothing.
-use mathlib.Core.List.{List}
-use Prim.Native.Nat.{ℕ}
-use Rattle.format.specs.Execution.{Execution}
-use Rattle.front.specs.Tabled.{Tabled}
-use Rattle.front.specs.Steps.{Stored, Made, HappensBefore, Bars, Rules, Pairs}
+use Rattle.front.specs.Steps.{HappensBefore, Bars, Rules, Pairs}
 use Rattle.front.proofs.TabledLaws.{tabled, owned}
 use Rattle.front.proofs.OrderedLaws.{ordered}
 use Rattle.front.proofs.BarredLaws.{barred}

@@ -15,7 +15,7 @@ use native.Mathlib.Omega.{arith}
 use native.Mathlib.Decide.{decLt}
 use borrow.Author.Tests.{leb-true, ltb-true}
 use lib.Dec.{leb, ltb}
-use lib.ListN.{length, getD}
+use lib.ListN.{length}
 use Rattle.basis.specs.Test.{_and_}
 use Rattle.basis.proofs.LoopLaws.{T-true, and-both}
 use Rattle.format.specs.declared.Shape.{Shape}

@@ -3,44 +3,43 @@
 --     torn-forth, torn-back     a torn read by the model is two sources of one access, and the other way round
 --     ruled25         25 finds what the model finds
 use mathlib.Core.Path.{_≡_, refl, sym, ap, _∙_, subst}
-use mathlib.Core.Bool.{Bool, true, false, cond}
-use mathlib.Core.Logic.{_⊎_, inl, inr, ⊎-elim, _↔_}
-use mathlib.Core.List.{List, [], _∷_, List·Memᴰ, List·Memᴰ·head, List·Memᴰ·tail}
-use mathlib.Core.Option.{Option, none, some}
-use Prim.Native.Nat.{ℕ, _+_, _*_, _/_, _%_, _<_, _≤_}
+use mathlib.Core.Bool.{true, false, cond}
+use mathlib.Core.Logic.{_⊎_, inl, inr, ⊎-elim}
+use mathlib.Core.List.{List, List·Memᴰ}
+use mathlib.Core.Option.{none, some}
+use Prim.Native.Nat.{ℕ, _+_, _*_, _/_, _%_, _<_}
 use native.Mathlib.Nat.{mod-eq-of-lt}
 use native.Mathlib.Omega.{arith}
 use borrow.Author.Tests.{eq-eqb, eqb-true, lt-ltb, ltb-true, ltb-false}
 use lib.Dec.{T, eqb, ltb}
-use lib.ListN.{length, getD, replicate}
-use Rattle.basis.specs.Test.{_and_, _or_, any, keep, find, mapped, each, across, from}
+use lib.ListN.{getD, replicate}
+use Rattle.basis.specs.Test.{_and_, _or_, any, find, mapped, each, across, from}
 use Rattle.basis.proofs.TestLaws.{and-elim, and-intro, any-elim, any-intro, from-mem, from-elim}
 use Rattle.basis.proofs.LoopLaws.{true-T, T-true, T-false, and-holds, and-both, or-holds, or-either, or-second}
 use Rattle.format.specs.declared.Shape.{Shape}
 use Rattle.format.specs.declared.Row.{Row}
 use Rattle.format.specs.Shape.{covers, equal, tearFree}
-use Rattle.format.specs.Event.{shapeAt}
-use Rattle.format.specs.Execution.{Execution, event}
+use Rattle.format.specs.Execution.{Execution}
 use Rattle.answer.specs.declared.Names.the-variants.{Torn}
 use Rattle.sets.specs.Mask.{slots, mem, Has}
-use Rattle.sets.proofs.BoolLaws.{by-bool, not-both-ways, false-of}
-use Rattle.cells.specs.First.{firstOf, First}
+use Rattle.sets.proofs.BoolLaws.{by-bool, not-both-ways}
+use Rattle.cells.specs.First.{firstOf}
 use Rattle.cells.proofs.FirstLaws.{first-of}
 use Rattle.basis.proofs.FindLaws.{least-pair, no-pair, find-firsts}
 use Rattle.basis.proofs.ListLaws.{each-elim, each-mem, each-id}
-use Rattle.model.specs.Events.{numbers, atRow, ofReader, ofWriter}
-use Rattle.model.specs.Rules.{Fault, faulty, untorn, untornFrom, breaks25, fault25}
+use Rattle.model.specs.Events.{numbers, atRow, ofReader}
+use Rattle.model.specs.Rules.{faulty, untorn, untornFrom, breaks25, fault25}
 use Rattle.model.proofs.Sound.{Sound}
 use Rattle.model.proofs.ShapeLaws.{equal-sym, equal-self, covers-equal}
 use Rattle.model.proofs.EventsLaws.{reads-covers, writes-covers}
 use Rattle.model.proofs.HappensLaws.{reader-inside, writer-inside}
-use Rattle.tables.specs.Tables.{accesses, shapeIn, slotIn, atIn, rowIn}
-use Rattle.tables.proofs.TablesLaws.{slot-first, slot-second, slot-lt, reader-slot, writer-slot}
+use Rattle.tables.specs.Tables.{accesses, shapeIn, slotIn, rowIn}
+use Rattle.tables.proofs.TablesLaws.{slot-first, slot-second, slot-lt}
 use Rattle.torn.specs.Torn.{untornIn, sourcesIn, twoIn, pairIn, pairs, tornIn, namedIn, rule25In}
 use Rattle.front.specs.Tabled.{Tabled, Rowed, foundOf}
 use Rattle.front.proofs.TabledLaws.{at-slot-of}
 use Rattle.front.proofs.RuledLaws.{found-named}
-use Rattle.front.proofs.SourcesLaws.{Sourced, sources-iff}
+use Rattle.front.proofs.SourcesLaws.{sources-iff}
 
 pub slot-one : (t : List ℕ) (e a b : ℕ) → T (covers (shapeIn t (slotIn t e a)) a) → T (covers (shapeIn t (slotIn t e b)) b)
     → T (equal (shapeIn t (slotIn t e a)) (shapeIn t (slotIn t e b))) → slotIn t e a ≡ slotIn t e b

@@ -1,9 +1,9 @@
 -- The first broken rule over the tables is the model's. Assumes nothing.
 --     ruled     foundOf (ruleIn ..) is the model's fault
-use mathlib.Core.Path.{_≡_, refl, sym, ap, _∙_}
+use mathlib.Core.Path.{_≡_, refl, ap, _∙_}
 use mathlib.Core.List.{List}
-use mathlib.Core.Option.{Option, none, some}
-use Prim.Native.Nat.{ℕ, _<_}
+use mathlib.Core.Option.{Option}
+use Prim.Native.Nat.{ℕ}
 use Rattle.basis.specs.Test.{_else_}
 use Rattle.format.specs.Execution.{Execution}
 use Rattle.model.specs.Rules.{Fault, fault21, fault22, fault23, fault24, fault25, fault}

@@ -1,10 +1,10 @@
 -- The laws of specs/Lay.antt. Assumes nothing.
 --     front-same, event-front, row-front     what is asked of a value stands in its first bytes
 --     upTo-length .. pairs-length            a loop's turn, and lengths
-use mathlib.Core.Path.{_≡_, refl, sym, ap, _∙_}
+use mathlib.Core.Path.{_≡_, refl, sym, _∙_}
 use mathlib.Core.List.{List}
 use mathlib.Core.Bool.{true}
-use Prim.Native.Nat.{ℕ, zero, suc, _+_, _*_, _%_, _≤_}
+use Prim.Native.Nat.{ℕ, zero, suc, _+_, _≤_}
 use native.Mathlib.Omega.{arith}
 use borrow.Author.Tests.{leb-true}
 use lib.Dec.{leb}
@@ -12,13 +12,12 @@ use lib.ListN.{length, getD, set, take, drop, length-set}
 use lib.Seq.{getD-take, take-take}
 use Rattle.basis.specs.Test.{_and_}
 use Rattle.basis.proofs.LoopLaws.{and-both}
-use Rattle.format.specs.declared.Row.{Row}
 use Rattle.format.specs.Field.{lengthAt, valueAt}
 use Rattle.format.specs.Layout.{rowOf}
 use Rattle.sheet.specs.declared.Sheet.{Sheet}
 use Rattle.cells.specs.Walk.{upTo}
 use Rattle.cells.proofs.WalkLaws.{upTo-more}
-use Rattle.lay.specs.Lay.{valuePut, eventPut, eventStep, eventsPut, rowPut, rowsPut, pairPut, pairsPut}
+use Rattle.lay.specs.Lay.{valuePut, eventStep, eventsPut, rowPut, rowsPut, pairPut, pairsPut}
 
 -- the first bytes of a value that has them are those of the sheet
 pub front-same : (s : List ℕ) (p n : ℕ) → (leb (p + 3 + n) (length s) and leb n (lengthAt s p)) ≡ true → take n (drop (p + 3) s) ≡ take n (valueAt s p)

@@ -1,19 +1,18 @@
 -- The laws of specs/Rules.antt, as the loops and returns use them. Assumes nothing.
 --     unlike-yes, unlike-no, turned-is, over-yes, over-no     what a turn of a loop tests
 --     rule21-yes, rule21-no, .. rule24-yes, rule24-no         which is named
-use mathlib.Core.Path.{_≡_, refl, sym, ap, _∙_, subst}
-use mathlib.Core.Bool.{Bool, true, false, cond}
+use mathlib.Core.Path.{_≡_, sym, ap, _∙_}
+use mathlib.Core.Bool.{true, false}
 use mathlib.Core.List.{List}
-use Prim.Native.Nat.{ℕ, _+_, _%_, _≤_, _<_}
+use Prim.Native.Nat.{ℕ, _%_, _≤_, _<_}
 use native.Mathlib.Nat.{mod-eq-of-lt}
 use native.Mathlib.Omega.{arith}
 use borrow.Author.Tests.{eq-eqb, ne-eqb, lt-ltb, le-ltb}
 use lib.Dec.{eqb, ltb}
-use lib.ListN.{length, getD}
+use lib.ListN.{getD}
 use Rattle.basis.specs.Test.{non}
 use Rattle.format.specs.declared.Row.{Row}
 use Rattle.answer.specs.declared.Names.the-variants.{Row as OfRow, Event as OfEvent, Between}
-use Rattle.answer.specs.declared.Rule.{Rule}
 use Rattle.answer.specs.declared.Rule.the-variants.{Kept, Breach}
 use Rattle.answer.proofs.RulesLaws.{named-yes, named-no}
 use Rattle.sets.specs.Mask.{slots, mem}

@@ -7,7 +7,7 @@
 --     rule21In .. rule24In          each at the first row or event that breaks it
 --     ruleIn                        the first rule that is broken, and whom it names
 -- Assumes nothing.
-use mathlib.Core.Bool.{Bool, cond}
+use mathlib.Core.Bool.{Bool}
 use mathlib.Core.List.{List}
 use Prim.Native.Nat.{ℕ, _%_}
 use lib.Bits.{bitAnd}
@@ -17,7 +17,7 @@ use Rattle.basis.specs.Test.{_and_, non}
 use Rattle.format.specs.declared.Row.{Row}
 use Rattle.answer.specs.declared.Names.the-variants.{Row as OfRow, Event as OfEvent, Between}
 use Rattle.answer.specs.declared.Rule.{Rule}
-use Rattle.answer.specs.declared.Rule.the-variants.{Kept, Breach}
+use Rattle.answer.specs.declared.Rule.the-variants.{Breach}
 use Rattle.answer.specs.Rules.{named, _also_}
 use Rattle.sets.specs.Mask.{slots, mem}
 use Rattle.cells.specs.First.{firstOf}

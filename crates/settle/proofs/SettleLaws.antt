@@ -5,7 +5,7 @@
 --     first-past                     a loop that has come to the end or beyond
 --     partner-start, partner-hit, partner-end     a loop over those to try
 --     settled-found, settled-none    what the search answers
-use mathlib.Core.Path.{_≡_, refl, sym, ap, _∙_, subst}
+use mathlib.Core.Path.{_≡_, sym, ap, _∙_}
 use mathlib.Core.Bool.{Bool, true, false, cond, not}
 use mathlib.Core.List.{List}
 use Prim.Native.Nat.{ℕ, _+_, _-_, _^_, _<_, _≤_, min}
@@ -23,9 +23,8 @@ use Rattle.format.specs.Shape.{writes, overlap, bothSc}
 use Rattle.sets.specs.Mask.{slots, mem, full, Lowest}
 use Rattle.sets.proofs.BoolLaws.{false-of}
 use Rattle.sets.proofs.MaskLaws.{mem-diff, mem-full, full-has, lt-of-members, ext-all}
-use Rattle.answer.specs.declared.Settled.{Settled}
 use Rattle.answer.specs.declared.Settled.the-variants.{Orderly, Unsettled}
-use Rattle.cells.specs.First.{firstOf, First}
+use Rattle.cells.specs.First.{firstOf}
 use Rattle.cells.specs.Walk.{picked}
 use Rattle.cells.proofs.FirstLaws.{first-of, first-is, first-found, Left, left-start, left-lowest, left-hit, left-end}
 use Rattle.cells.proofs.WalkLaws.{mem-picked}

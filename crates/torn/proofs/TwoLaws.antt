@@ -13,7 +13,7 @@ use lib.Dec.{eqb, ltb}
 use Rattle.basis.specs.Test.{_and_}
 use Rattle.basis.proofs.LoopLaws.{and-holds, and-both}
 use Rattle.sets.specs.Mask.{slots, mem, Has, remove, Lowest}
-use Rattle.sets.proofs.BoolLaws.{by-bool, not-both-ways, false-of, eqb-self}
+use Rattle.sets.proofs.BoolLaws.{not-both-ways, false-of, eqb-self}
 use Rattle.sets.proofs.MaskLaws.{mem-remove, mem-empty, mem-lt, remove-le, remove-old, remove-cases}
 use Rattle.cells.specs.First.{firstOf}
 use Rattle.cells.proofs.FirstLaws.{first-is}

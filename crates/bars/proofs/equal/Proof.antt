@@ -1,7 +1,6 @@
 -- `bars::equal` meets its contract, by the mode. Assumes nothing.
-use mathlib.Core.Path.{_≡_, refl, sym, ap, _∙_, subst}
-use mathlib.Core.Bool.{Bool}
-use Prim.Native.Nat.{ℕ, _+_, _-_, _*_, _/_, _%_, _≤_, _<_, min}
+use mathlib.Core.Path.{sym, ap, _∙_}
+use Prim.Native.Nat.{_-_, _%_}
 use borrow.Author.Tests.{eq-eqb, ne-eqb}
 use denote.Ref.{now}
 use lib.ListN.{getD}
@@ -9,7 +8,7 @@ use Rattle.format.specs.declared.Shape.{Shape}
 use Rattle.format.specs.Shape.{sc}
 use Rattle.cells.specs.Walk.{over, taking}
 use Rattle.tables.specs.Tables.{accesses}
-use Rattle.bars.specs.Bars.{sharing, bytes, amongIn}
+use Rattle.bars.specs.Bars.{sharing, bytes}
 use Rattle.bars.proofs.BarsLaws.{among-none, among-some}
 use borrow.Author.Needs.{needs}
 use Rattle.bars.proofs.equal.Statement.{statement}

@@ -1,5 +1,5 @@
 -- `bars::fill` meets its contract: the sets of equal ranges, and the bars by them. Assumes nothing.
-use mathlib.Core.Path.{_≡_, ap, _∙_}
+use mathlib.Core.Path.{ap, _∙_}
 use mathlib.Core.List.{List}
 use Prim.Native.Nat.{ℕ, min}
 use denote.Ref.{now}

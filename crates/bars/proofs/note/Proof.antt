@@ -1,8 +1,8 @@
 -- `bars::note` meets its contract, by what the access is. Assumes nothing.
-use mathlib.Core.Path.{_≡_, refl, sym, ap, _∙_, subst}
+use mathlib.Core.Path.{_≡_, sym, ap, _∙_}
 use mathlib.Core.Bool.{Bool, true, false, _&&_}
 use mathlib.Core.List.{List}
-use Prim.Native.Nat.{ℕ, _+_, _-_, _*_, _/_, _%_, _≤_, _<_, min}
+use Prim.Native.Nat.{ℕ, _-_, _/_, _%_}
 use native.Mathlib.Nat.{mod-eq-of-lt}
 use native.Mathlib.Omega.{arith}
 use Rattle.sets.specs.Mask.{slots}
@@ -15,7 +15,7 @@ use Rattle.format.specs.declared.Shape.{Shape}
 use Rattle.format.specs.Shape.{writes, sc}
 use Rattle.tables.specs.Tables.{accesses, shapeIn}
 use Rattle.cells.specs.Cells.{gaining}
-use Rattle.bars.specs.Bars.{scWrites, bytes, startGains}
+use Rattle.bars.specs.Bars.{scWrites, bytes}
 use Rattle.bars.proofs.BarsLaws.{start-gains, start-keeps}
 use borrow.Author.Needs.{needs}
 use Rattle.bars.proofs.note.Statement.{statement}

@@ -1,18 +1,15 @@
 -- `before::fill` meets its contract, call by call. Assumes nothing.
-use mathlib.Core.Path.{_≡_, refl, sym, ap, _∙_, subst}
-use mathlib.Core.Bool.{Bool, true, false}
-use mathlib.Core.Logic.{⊎-elim}
+use mathlib.Core.Path.{_≡_, ap, _∙_, subst}
 use mathlib.Core.List.{List}
-use Prim.Native.Nat.{ℕ, _+_, _-_, _*_, _%_, _≤_, _<_, min}
-use native.Mathlib.Nat.{mod-eq-of-lt}
+use Prim.Native.Nat.{ℕ, _-_, min}
 use native.Mathlib.Omega.{arith}
 use borrow.Author.Needs.{needs}
 use denote.Ref.{now}
-use lib.ListN.{length, getD, set}
-use Rattle.sets.specs.Mask.{slots, mem, insert}
+use lib.ListN.{length}
+use Rattle.sets.specs.Mask.{slots}
 use Rattle.sets.specs.Closure.{taken, Closed}
 use Rattle.tables.specs.Tables.{rowRoom, pairRoom}
-use Rattle.before.specs.Before.{stepsIn, turnedIn, Ordered}
+use Rattle.before.specs.Before.{stepsIn, Ordered}
 use Rattle.before.proofs.fill.Statement.{statement}
 use Rattle.before.proofs.fill.Tie as tie
 

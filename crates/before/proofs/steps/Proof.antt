@@ -1,15 +1,9 @@
 -- `before::steps` meets its contract, call by call. Assumes nothing.
-use mathlib.Core.Path.{_≡_, refl, sym, ap, _∙_, subst}
-use mathlib.Core.Bool.{Bool, true, false}
-use mathlib.Core.Logic.{⊎-elim}
-use mathlib.Core.List.{List}
-use Prim.Native.Nat.{ℕ, _+_, _-_, _*_, _%_, _≤_, _<_, min}
-use native.Mathlib.Nat.{mod-eq-of-lt}
-use native.Mathlib.Omega.{arith}
+use mathlib.Core.Path.{ap, _∙_}
+use Prim.Native.Nat.{_-_, min}
 use borrow.Author.Needs.{needs}
 use denote.Ref.{now}
-use lib.ListN.{length, getD, set}
-use Rattle.sets.specs.Mask.{slots, mem, insert}
+use lib.ListN.{length}
 use Rattle.tables.specs.Tables.{rowRoom, pairRoom}
 use Rattle.before.specs.Before.{rowsIn, pairsIn, stepsIn}
 use Rattle.before.proofs.steps.Statement.{statement}

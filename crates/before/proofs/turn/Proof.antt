@@ -1,12 +1,10 @@
 -- `before::turn` meets its contract: the columns of the first e events are there. The measure is what is left. Assumes nothing.
-use mathlib.Core.Path.{_≡_, refl, sym, ap, _∙_, subst}
-use mathlib.Core.List.{List}
-use Prim.Native.Nat.{ℕ, _+_, _-_, _*_, _%_, _≤_, _<_, min}
+use mathlib.Core.Path.{_≡_, ap, _∙_}
+use Prim.Native.Nat.{ℕ, _-_, _≤_}
 use native.Mathlib.Nat.{mod-eq-of-lt}
 use native.Mathlib.Omega.{arith}
 use denote.Ref.{now}
 use lib.ListN.{length, getD}
-use Rattle.sets.specs.Mask.{slots}
 use Rattle.sets.specs.Closure.{taken}
 use Rattle.cells.specs.Walk.{upTo}
 use Rattle.cells.specs.Cells.{scatter}

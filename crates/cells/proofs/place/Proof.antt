@@ -1,15 +1,9 @@
 -- `cells::place` meets its contract: beyond the end nothing is written. Assumes nothing.
-use mathlib.Core.Path.{_≡_, refl, sym, ap, _∙_, subst}
-use mathlib.Core.Bool.{Bool, true, false}
-use mathlib.Core.Logic.{⊎-elim}
-use mathlib.Core.List.{List}
-use Prim.Native.Nat.{ℕ, _+_, _-_, _*_, _%_, _≤_, _<_, min}
-use native.Mathlib.Nat.{mod-eq-of-lt}
-use native.Mathlib.Omega.{arith}
+use mathlib.Core.Path.{sym}
+use Prim.Native.Nat.{_-_}
 use borrow.Author.Needs.{needs}
 use denote.Ref.{now}
-use lib.ListN.{length, getD, set}
-use Rattle.sets.specs.Mask.{slots, mem, insert}
+use lib.ListN.{length, set}
 use lib.Seq.{set-out}
 use Rattle.cells.proofs.place.Statement.{statement}
 use Rattle.cells.proofs.place.Tie as tie

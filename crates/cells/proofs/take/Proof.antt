@@ -1,7 +1,7 @@
 -- `cells::take` meets its contract, by the test. Assumes nothing.
-use mathlib.Core.Path.{_≡_, sym, ap, _∙_}
+use mathlib.Core.Path.{sym, ap, _∙_}
 use mathlib.Core.Bool.{Bool, cond}
-use Prim.Native.Nat.{ℕ, _%_}
+use Prim.Native.Nat.{_%_}
 use Rattle.sets.specs.Mask.{slots, insert}
 use borrow.Author.Needs.{needs}
 use Rattle.cells.proofs.take.Statement.{statement}

@@ -4,43 +4,33 @@ use borrow.Author.Needs.{needs}
 use Rattle.judge.proofs.admit.Statement.{statement}
 use Rattle.judge.proofs.admit.Tie as tie
 
--- src/lib.rt:80:14
 sub-n : tie.Need-sub-n
 sub-n c = inits-fit (c .before .before .before .before .before .pre)
 
--- src/lib.rt:80:13
 cast-n : tie.Need-cast-n
 cast-n c = search needs
 
--- src/lib.rt:81:9
 needed-requires : tie.Need-needed-requires
 needed-requires c κs = search needs
 
--- src/lib.rt:83:9
 returns : tie.Need-returns
 returns c = short-scratch (c .before .before .before .before .before .before .before .pre) (c .before .needed .ensures) (c .if1 .taken)
 
--- src/lib.rt:85:22
 cast-if2 : tie.Need-cast-if2
 cast-if2 c = search needs
 
--- src/lib.rt:86:9
 returns-2 : tie.Need-returns-2
 returns-2 c = short-order (c .before .before .before .before .before .before .before .before .before .pre) (c .before .before .before .needed .ensures) (c .before .before .if1 .left) (c .if2 .taken)
 
--- src/lib.rt:88:5
 weigh-requires : tie.Need-weigh-requires
 weigh-requires c κs = admits (c .before .before .before .before .before .before .before .before .before .before .before .pre) (c .before .before .before .before .before .needed .ensures) (c .before .before .before .before .if1 .left) (c .before .before .if2 .left)
 
--- src/lib.rt:76:1
 same-length : tie.Need-same-length
 same-length c = search needs
 
--- src/lib.rt:76:1
 same-length-2 : tie.Need-same-length-2
 same-length-2 c = search needs
 
--- src/lib.rt:76:1
 returns-3 : tie.Need-returns-3
 returns-3 c = search needs
 

@@ -4,87 +4,66 @@ use borrow.Author.Needs.{needs}
 use Rattle.judge.proofs.weigh.Statement.{statement}
 use Rattle.judge.proofs.weigh.Tie as tie
 
--- src/lib.rt:54:17
 cast-inits : tie.Need-cast-inits
 cast-inits c = search needs
 
--- src/lib.rt:55:18
 cast-events : tie.Need-cast-events
 cast-events c = search needs
 
--- src/lib.rt:56:16
 cast-rows : tie.Need-cast-rows
 cast-rows c = search needs
 
--- src/lib.rt:57:17
 cast-pairs : tie.Need-cast-pairs
 cast-pairs c = search needs
 
--- src/lib.rt:61:25
 slice-aggregate-fill : tie.Need-slice-aggregate-fill
 slice-aggregate-fill c = search needs
 
--- src/lib.rt:61:33
 slice-aggregate-fill-2 : tie.Need-slice-aggregate-fill-2
 slice-aggregate-fill-2 c = search needs
 
--- src/lib.rt:61:41
 slice-aggregate-fill-3 : tie.Need-slice-aggregate-fill-3
 slice-aggregate-fill-3 c = search needs
 
--- src/lib.rt:61:5
 fill-requires : tie.Need-fill-requires
 fill-requires c κs = search needs
 
--- src/lib.rt:64:51
 slice-aggregate-fill-4 : tie.Need-slice-aggregate-fill-4
 slice-aggregate-fill-4 c = search needs
 
--- src/lib.rt:64:62
 slice-aggregate-fill-5 : tie.Need-slice-aggregate-fill-5
 slice-aggregate-fill-5 c = search needs
 
--- src/lib.rt:64:5
 fill-requires-2 : tie.Need-fill-requires-2
 fill-requires-2 c κs = search needs
 
--- src/lib.rt:65:9
 first-broken-requires : tie.Need-first-broken-requires
 first-broken-requires c κs = search needs
 
--- src/lib.rt:67:22
 enum-known-rule : tie.Need-enum-known-rule
 enum-known-rule c = search needs
 
--- src/lib.rt:68:13
 clear-requires : tie.Need-clear-requires
 clear-requires c κs = search needs
 
--- src/lib.rt:71:55
 enum-told : tie.Need-enum-told
 enum-told c = search needs
 
--- src/lib.rt:71:23
 arrange-requires : tie.Need-arrange-requires
 arrange-requires c κs = unbroken-of (c .before .before .before .before .before .before .before .before .before .before .before .before .before .before .before .before .before .before .before .before .before .before .before .before .before .before .before .before .before .before .before .before .before .before .before .before .pre) (c .before .before .before .before .before .before .before .before .before .before .before .before .before .before .before .before .before .before .before .before .before .before .before .before .fill .ensures) (c .before .before .before .before .before .before .before .before .before .before .before .before .before .before .before .fill2 .ensures) (c .before .before .before .before .before .before .before .before .first-broken .ensures) (c .before .before .before .before .before .before .enum-told .given .1)
 
--- src/lib.rt:43:1
 same-length : tie.Need-same-length
 same-length c = search needs
 
--- src/lib.rt:43:1
 returns : tie.Need-returns
 returns c = broken-rule (c .before .before .before .before .before .before .before .before .before .before .before .before .before .before .before .before .before .before .before .before .before .before .before .before .before .before .before .before .before .before .before .before .before .before .before .pre) (c .before .before .before .before .before .before .before .before .before .before .before .before .before .before .before .before .before .before .before .before .before .before .before .fill .ensures) (c .before .before .before .before .before .before .before .before .before .before .before .before .before .before .fill2 .ensures) (c .before .before .before .before .before .before .before .first-broken .ensures) (c .before .before .before .before .before .rule .given .1) (c .before .before .clear .ensures)
 
--- src/lib.rt:43:1
 same-length-2 : tie.Need-same-length-2
 same-length-2 c = search needs
 
--- src/lib.rt:43:1
 same-length-3 : tie.Need-same-length-3
 same-length-3 c = search needs
 
--- src/lib.rt:43:1
 returns-2 : tie.Need-returns-2
 returns-2 c = search needs
 

@@ -1,6 +1,6 @@
 -- `lay::pair` meets its contract. Assumes nothing.
-use mathlib.Core.Path.{_≡_, ap, _∙_}
-use Prim.Native.Nat.{ℕ, _%_}
+use mathlib.Core.Path.{ap, _∙_}
+use Prim.Native.Nat.{_%_}
 use Rattle.format.specs.declared.Pair.{Pair}
 use Rattle.tables.specs.Tables.{pairRoom, puttingPair}
 use Rattle.lay.specs.Lay.{pairPut}

@@ -1,16 +1,11 @@
 -- `lay::pairs` meets its contract: the first j pairs are there. The measure is what is left. Assumes nothing.
-use mathlib.Core.Path.{_≡_, refl, sym, ap, _∙_, subst}
-use mathlib.Core.Bool.{Bool, true, false}
-use mathlib.Core.Logic.{⊎-elim}
-use mathlib.Core.List.{List}
-use Prim.Native.Nat.{ℕ, _+_, _-_, _*_, _%_, _≤_, _<_, min}
-use native.Mathlib.Nat.{mod-eq-of-lt}
+use mathlib.Core.Path.{_≡_, ap, _∙_}
+use Prim.Native.Nat.{ℕ, _-_, _≤_, min}
 use native.Mathlib.Omega.{arith}
 use borrow.Author.Needs.{needs}
 use denote.Ref.{now}
-use lib.ListN.{length, getD, set}
+use lib.ListN.{length}
 use Rattle.tables.specs.Tables.{pairRoom}
-use Rattle.sets.specs.Mask.{slots, mem, insert}
 use Rattle.lay.specs.Lay.{pairPut, pairsPut}
 use Rattle.lay.proofs.LayLaws.{pairs-none, pairs-more, pairs-length}
 use Rattle.lay.proofs.pairs.Statement.{statement}

@@ -2,7 +2,7 @@
 use mathlib.Core.Path.{_≡_}
 use native.Mathlib.Nat.{mod-eq-of-lt}
 use native.Mathlib.Omega.{arith}
-use Prim.Native.Nat.{ℕ, _*_, _%_}
+use Prim.Native.Nat.{_*_, _%_}
 use Rattle.sets.specs.Mask.{slots}
 use Rattle.tables.specs.Tables.{accesses}
 use borrow.Author.Needs.{needs}

@@ -1,12 +1,4 @@
 -- `rules::between` meets its contract: the search, over what lies between the two. Assumes nothing.
-use mathlib.Core.Path.{_≡_, sym, ap, _∙_}
-use mathlib.Core.Bool.{Bool}
-use Prim.Native.Nat.{ℕ}
-use denote.Ref.{now}
-use Rattle.basis.specs.Test.{_and_}
-use Rattle.sets.specs.Mask.{slots, mem}
-use Rattle.cells.specs.First.{firstOf}
-use Rattle.tables.specs.Tables.{writesIn}
 use Rattle.rules.specs.Rules.{betweenIn}
 use borrow.Author.Needs.{needs}
 use Rattle.rules.proofs.between.Statement.{statement}

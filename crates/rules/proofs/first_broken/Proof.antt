@@ -1,5 +1,5 @@
 -- `rules::first_broken` meets its contract: each rule, where those before it found nothing. Assumes nothing.
-use mathlib.Core.Path.{_≡_, sym, ap, _∙_}
+use mathlib.Core.Path.{sym, _∙_}
 use Rattle.answer.proofs.RulesLaws.{also-here, also-later}
 use Rattle.rules.specs.Rules.{ruleIn}
 use borrow.Author.Needs.{needs}

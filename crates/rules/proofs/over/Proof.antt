@@ -1,17 +1,13 @@
 -- `rules::over` meets its contract: what stands before j passes not. The measure is what is left. Assumes nothing.
-use mathlib.Core.Path.{_≡_, refl, sym, ap, _∙_, subst}
-use mathlib.Core.Bool.{Bool, true, false}
-use Prim.Native.Nat.{ℕ, _+_, _-_, _*_, _/_, _%_, _≤_, _<_, min}
-use native.Mathlib.Nat.{mod-eq-of-lt}
+use mathlib.Core.Path.{_≡_, _∙_}
+use mathlib.Core.Bool.{false}
+use Prim.Native.Nat.{ℕ, _-_, _≤_, _<_, min}
 use native.Mathlib.Omega.{arith}
 use borrow.Author.Count.{below-more}
 use borrow.Author.Needs.{needs}
 use denote.Ref.{now}
-use lib.ListN.{length, getD}
-use Rattle.sets.specs.Mask.{slots}
-use Rattle.sets.proofs.MaskLaws.{at-slot}
-use Rattle.cells.proofs.FirstLaws.{first-found, first-none, first-or}
-use Rattle.tables.specs.Tables.{rowRoom, accesses}
+use Rattle.cells.proofs.FirstLaws.{first-found, first-none}
+use Rattle.tables.specs.Tables.{rowRoom}
 use Rattle.rules.specs.Rules.{overIn}
 use Rattle.rules.proofs.RulesLaws.{over-yes, over-no}
 use Rattle.rules.proofs.over.Statement.{statement}

@@ -1,6 +1,5 @@
 -- `rules::rule24` meets its contract, by the test. Assumes nothing.
-use mathlib.Core.Path.{_≡_, sym, ap, _∙_}
-use Prim.Native.Nat.{ℕ, _≤_, _<_, min}
+use Prim.Native.Nat.{min}
 use native.Mathlib.Omega.{arith}
 use denote.Ref.{now}
 use Rattle.sets.specs.Mask.{slots}

@@ -1,5 +1,5 @@
 -- `rules::writes_byte` meets its contract. Assumes nothing.
-use mathlib.Core.Path.{_≡_, ap, _∙_}
+use mathlib.Core.Path.{_∙_}
 use Rattle.basis.proofs.BoolLaws.{amp-and}
 use Rattle.tables.specs.Tables.{writesIn}
 use borrow.Author.Needs.{needs}

@@ -1,15 +1,7 @@
 -- `tables::pair` meets its contract, field by field. Assumes nothing.
-use mathlib.Core.Path.{_≡_, refl, sym, ap, _∙_, subst}
-use mathlib.Core.Bool.{Bool, true, false}
-use mathlib.Core.Logic.{⊎-elim}
-use mathlib.Core.List.{List}
-use Prim.Native.Nat.{ℕ, _+_, _-_, _*_, _%_, _≤_, _<_, min}
-use native.Mathlib.Nat.{mod-eq-of-lt}
-use native.Mathlib.Omega.{arith}
+use mathlib.Core.Path.{refl}
+use Prim.Native.Nat.{_-_}
 use borrow.Author.Needs.{needs}
-use denote.Ref.{now}
-use lib.ListN.{length, getD, set}
-use Rattle.sets.specs.Mask.{slots, mem, insert}
 use Rattle.tables.specs.Tables.{pairIn}
 use Rattle.tables.proofs.pair.Statement.{statement}
 use Rattle.tables.proofs.pair.Tie as tie

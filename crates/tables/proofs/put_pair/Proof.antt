@@ -1,9 +1,4 @@
 -- `tables::put_pair` meets its contract, write by write. Assumes nothing.
-use mathlib.Core.Path.{_≡_, ap, _∙_}
-use mathlib.Core.List.{List}
-use Prim.Native.Nat.{ℕ, _+_, _%_}
-use lib.ListN.{set}
-use Rattle.tables.specs.Tables.{pairRoom}
 use borrow.Author.Needs.{needs}
 use Rattle.tables.proofs.put_pair.Statement.{statement}
 use Rattle.tables.proofs.put_pair.Tie as tie

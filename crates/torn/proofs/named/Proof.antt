@@ -1,15 +1,9 @@
 -- `torn::named` meets its contract, by the test. Assumes nothing.
-use mathlib.Core.Path.{_≡_, refl, sym, ap, _∙_, subst}
-use mathlib.Core.Bool.{Bool, true, false}
-use mathlib.Core.List.{List}
-use Prim.Native.Nat.{ℕ, _+_, _-_, _*_, _/_, _%_, _≤_, _<_, min}
-use native.Mathlib.Nat.{mod-eq-of-lt}
+use Prim.Native.Nat.{_-_, _%_, min}
 use native.Mathlib.Omega.{arith}
 use borrow.Author.Needs.{needs}
 use denote.Ref.{now}
-use lib.ListN.{length, getD}
-use Rattle.sets.specs.Mask.{slots, mem, Lowest}
-use Rattle.tables.specs.Tables.{rowRoom, accesses}
+use Rattle.sets.specs.Mask.{slots}
 use Rattle.cells.proofs.FirstLaws.{first-of}
 use Rattle.torn.specs.Torn.{pairIn, pairs}
 use Rattle.torn.proofs.TornLaws.{named-here, none-here}

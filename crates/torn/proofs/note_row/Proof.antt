@@ -1,18 +1,13 @@
 -- `torn::note_row` meets its contract, by the test. Assumes nothing.
-use mathlib.Core.Path.{_≡_, refl, sym, ap, _∙_, subst}
-use mathlib.Core.Bool.{Bool, true, false}
-use mathlib.Core.List.{List}
-use Prim.Native.Nat.{ℕ, _+_, _-_, _*_, _/_, _%_, _≤_, _<_, min}
-use native.Mathlib.Nat.{mod-eq-of-lt}
-use native.Mathlib.Omega.{arith}
+use mathlib.Core.Path.{sym, ap, _∙_}
+use mathlib.Core.Bool.{true, false}
+use Prim.Native.Nat.{ℕ, _-_, _%_}
 use borrow.Author.Needs.{needs}
 use denote.Ref.{now}
-use lib.ListN.{length, getD}
-use Rattle.sets.specs.Mask.{slots, mem, Lowest}
-use Rattle.tables.specs.Tables.{rowRoom, accesses}
+use lib.ListN.{length}
+use Rattle.sets.specs.Mask.{slots}
 use borrow.Author.Tests.{not-true, not-false}
 use Rattle.cells.specs.Cells.{gaining}
-use Rattle.torn.specs.Torn.{untornIn}
 use Rattle.torn.proofs.TornLaws.{row-gains, row-keeps}
 use borrow.Author.Needs.{needs}
 use Rattle.torn.proofs.note_row.Statement.{statement}

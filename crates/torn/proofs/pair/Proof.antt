@@ -1,17 +1,11 @@
 -- `torn::pair` meets its contract: the first of two tests together. Assumes nothing.
-use mathlib.Core.Path.{_≡_, refl, sym, ap, _∙_, subst}
-use mathlib.Core.Bool.{Bool, true, false}
-use Prim.Native.Nat.{ℕ, _+_, _-_, _*_, _/_, _%_, _≤_, _<_, min}
-use native.Mathlib.Nat.{mod-eq-of-lt}
-use native.Mathlib.Omega.{arith}
-use borrow.Author.Count.{below-more}
+use mathlib.Core.Path.{ap, _∙_}
+use Prim.Native.Nat.{ℕ, _+_, _-_, _*_, _%_, min}
 use borrow.Author.Needs.{needs}
 use denote.Ref.{now}
-use lib.ListN.{length, getD}
-use Rattle.sets.specs.Mask.{slots, mem, Lowest}
-use Rattle.sets.proofs.MaskLaws.{at-slot}
-use Rattle.cells.proofs.FirstLaws.{first-found, first-none, first-or}
-use Rattle.tables.specs.Tables.{rowRoom, accesses}
+use lib.ListN.{getD}
+use Rattle.sets.specs.Mask.{slots}
+use Rattle.cells.proofs.FirstLaws.{first-or}
 use Rattle.torn.specs.Torn.{twoIn, pairIn, pairs}
 use borrow.Author.Needs.{needs}
 use Rattle.torn.proofs.pair.Statement.{statement}

@@ -1,5 +1,5 @@
 -- `torn::rule25` meets its contract: the sources, and who is named by them. Assumes nothing.
-use mathlib.Core.Path.{_≡_, ap, _∙_}
+use mathlib.Core.Path.{ap, _∙_}
 use mathlib.Core.List.{List}
 use Prim.Native.Nat.{ℕ, min}
 use Rattle.sets.specs.Mask.{slots}

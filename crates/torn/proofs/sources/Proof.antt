@@ -1,15 +1,11 @@
 -- `torn::sources` meets its contract: the first j rows are done. The measure is what is left. Assumes nothing.
-use mathlib.Core.Path.{_≡_, refl, sym, ap, _∙_, subst}
-use mathlib.Core.Bool.{Bool, true, false}
-use mathlib.Core.List.{List}
-use Prim.Native.Nat.{ℕ, _+_, _-_, _*_, _/_, _%_, _≤_, _<_, min}
-use native.Mathlib.Nat.{mod-eq-of-lt}
+use mathlib.Core.Path.{_≡_, ap, _∙_}
+use Prim.Native.Nat.{ℕ, _-_, _≤_, min}
 use native.Mathlib.Omega.{arith}
 use borrow.Author.Needs.{needs}
 use denote.Ref.{now}
-use lib.ListN.{length, getD}
-use Rattle.sets.specs.Mask.{slots, mem, Lowest}
-use Rattle.tables.specs.Tables.{rowRoom, accesses}
+use lib.ListN.{length}
+use Rattle.tables.specs.Tables.{rowRoom}
 use Rattle.format.specs.declared.Row.{Row}
 use Rattle.tables.specs.Tables.{rowIn}
 use Rattle.tables.proofs.TablesLaws.{row-at}

@@ -1,17 +1,9 @@
 -- `torn::two` meets its contract: the second is the lowest of what is left without the first. Assumes nothing.
-use mathlib.Core.Path.{_≡_, refl, sym, ap, _∙_, subst}
-use mathlib.Core.Bool.{Bool, true, false}
-use Prim.Native.Nat.{ℕ, _+_, _-_, _*_, _/_, _%_, _≤_, _<_, min}
-use native.Mathlib.Nat.{mod-eq-of-lt}
+use mathlib.Core.Path.{subst}
+use Prim.Native.Nat.{ℕ, _-_, _%_}
 use native.Mathlib.Omega.{arith}
-use borrow.Author.Count.{below-more}
 use borrow.Author.Needs.{needs}
-use denote.Ref.{now}
-use lib.ListN.{length, getD}
-use Rattle.sets.specs.Mask.{slots, mem, Lowest}
-use Rattle.sets.proofs.MaskLaws.{at-slot}
-use Rattle.cells.proofs.FirstLaws.{first-found, first-none, first-or}
-use Rattle.tables.specs.Tables.{rowRoom, accesses}
+use Rattle.sets.specs.Mask.{slots, Lowest}
 use Rattle.sets.specs.Mask.{remove}
 use Rattle.torn.proofs.TwoLaws.{two-found, two-first, two-last}
 use borrow.Author.Needs.{needs}

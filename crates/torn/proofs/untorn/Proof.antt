@@ -1,17 +1,12 @@
 -- `torn::untorn` meets its contract, test by test. Assumes nothing.
-use mathlib.Core.Path.{_≡_, refl, sym, ap, _∙_, subst}
-use mathlib.Core.Bool.{Bool, true, false}
-use Prim.Native.Nat.{ℕ, _+_, _-_, _*_, _/_, _%_, _≤_, _<_, min}
+use mathlib.Core.Path.{_≡_, ap}
+use Prim.Native.Nat.{_-_, _%_}
 use native.Mathlib.Nat.{mod-eq-of-lt}
 use native.Mathlib.Omega.{arith}
-use borrow.Author.Count.{below-more}
 use borrow.Author.Needs.{needs}
 use denote.Ref.{now}
-use lib.ListN.{length, getD}
-use Rattle.sets.specs.Mask.{slots, mem, Lowest}
-use Rattle.sets.proofs.MaskLaws.{at-slot}
-use Rattle.cells.proofs.FirstLaws.{first-found, first-none, first-or}
-use Rattle.tables.specs.Tables.{rowRoom, accesses}
+use Rattle.sets.specs.Mask.{slots}
+use Rattle.tables.specs.Tables.{accesses}
 use Rattle.basis.specs.Test.{_and_}
 use Rattle.format.specs.Shape.{tearFree}
 use Rattle.tables.specs.Tables.{slotIn}

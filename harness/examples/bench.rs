@@ -1,6 +1,6 @@
-//! bench: the linked judge and two ordinary Rust judges over the same whole sheets, buffers reused, in one run: one by
-//! the proved judge's method step by step (`ordinary::same`), one with more tables of masks (`ordinary`). A line for each
-//! number of events that are not inits and each answer: nanoseconds a sheet, and the linked judge's time by the other's.
+//! bench: the linked judge and two ordinary Rust judges over the same whole sheets, buffers reused, in one run: one test
+//! by test (`ordinary::same`), one with more tables of masks (`ordinary`). A line for each number of events that are not
+//! inits and each answer: nanoseconds a sheet, and the linked judge's time by the other's.
 
 use second::random::{sized, Rng};
 use std::hint::black_box;
@@ -52,7 +52,7 @@ fn pass(judge: Judge, sheets: &[Vec<u8>], times: usize, scratch: &mut [u8], orde
 fn main() {
     let (mut scratch, mut order) = (vec![0; plimdrong::MAX_SCRATCH], vec![0; plimdrong::MAX_EVENTS]);
     println!("{}; release build; lowest of {ROUNDS} rounds, the three judges in turn", machine());
-    println!("| events | answer | plimdrong, ns | same method, ns | ratio | more masks, ns | ratio |");
+    println!("| events | answer | plimdrong, ns | test by test, ns | ratio | more masks, ns | ratio |");
     println!("|---|---|---|---|---|---|---|");
     let judges: [Judge; 3] = [plimdrong::judge_with, ordinary::same::judge, ordinary::judge];
     for n in SIZES {

@@ -1,6 +1,7 @@
 //! Two ordinary Rust judges to measure the proved one against; what they answer is compared with the second program.
-//! `same` goes the proved judge's steps one by one. The one here has the same closure, bars and search, and more tables of
-//! masks (events with equal and with overlapping ranges, writers by byte), so that whole sets replace tests one by one.
+//! `same` goes test by test, as the proved judge did before its steps took masks. The one here has the same closure, bars
+//! and search, and tables of masks (events with equal and with overlapping ranges, writers by byte), so that whole sets
+//! replace tests one by one: today the nearer of the two to the proved judge's method.
 
 #![no_std]
 

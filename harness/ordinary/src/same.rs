@@ -1,7 +1,7 @@
-//! The proved judge's method step by step, in ordinary Rust: the reader keeps places and looks at the sheet again, events
-//! stand in a table, each pair of events is tested for a direct step, the steps are closed by whole rows, the rules go
-//! over the rows, each row is tried with each event for a bar, then the search. Structs, `Option`, slices with their
-//! bounds checks; nothing of `unsafe`.
+//! A judge that goes test by test, as the proved judge did before its steps took masks, in ordinary Rust: the reader keeps
+//! places and looks at the sheet again, events stand in a table, each pair of events is tested for a direct step, the steps
+//! are closed by whole rows, the rules go over the rows, each row is tried with each event for a bar, then the search.
+//! Structs, `Option`, slices with their bounds checks; nothing of `unsafe`.
 
 use crate::{
     bit, refused, INIT, MARKER, MAX_INITS, MAX_OTHERS, MAX_PAIRS, MAX_SHEET, READ, RMW, SC, SLOTS, UNORDERED, WRITE,

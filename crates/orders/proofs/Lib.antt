@@ -10,3 +10,4 @@ pub mod ReachableLaws
 pub mod TallyLaws
 pub mod AnswerLaws
 pub mod Promises
+pub mod NextLaws

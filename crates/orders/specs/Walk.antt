@@ -5,6 +5,7 @@
 --     Readers m bars v c           c has every r that has a bar (r, w, v) with w below m
 --     Writers m bars v c           c has every w below m that has a bar (r, w, v), and nothing from m up
 --     Gathered m bars writers      writers[v] is such a set, for each v
+--     Unplaced m s from c          c has every event from `from` on, below m, that is not in s, and nothing below or above these
 --     isSeen k table s e           whether the table marks the set s with e
 --     Tried P k table s j          of the events below j that can be placed after those of s, each leads to a marked set
 --     NextIs P k table s r         r is the lowest event that can be placed after those of s and leads to a set that is not marked
@@ -18,7 +19,7 @@ use mathlib.Core.Path.{_≡_}
 use mathlib.Core.Bool.{Bool, true, false}
 use mathlib.Core.List.{List}
 use lib.ListN.{length, getD, take, drop, set}
-use Rattle.sets.specs.Mask.{slots, Has, Within, insert, full, above}
+use Rattle.sets.specs.Mask.{slots, mem, Has, Within, insert, full, above}
 use Rattle.sets.specs.Table.{isMarked, marking, bytesFor, cleared}
 use Rattle.orders.specs.declared.Count.{Count}
 use Rattle.orders.specs.Problem.{Problem}
@@ -39,6 +40,11 @@ pub record Writers (m : ℕ) (bars : List ℕ) (v c : ℕ) : Type 0 where
 
 abbrev pub Gathered : ℕ → List ℕ → List ℕ → Type 0
 Gathered m bars writers = (v : ℕ) → v < m → Writers m bars v (getD writers v 0)
+
+pub record Unplaced (m s from c : ℕ) : Type 0 where
+  pub width : c < 2 ^ slots
+  pub only : (d : ℕ) → Has c d → (from ≤ d) × (d < m)
+  pub all : (d : ℕ) → from ≤ d → d < m → mem s d ≡ false → Has c d
 
 abbrev pub isSeen : ℕ → List ℕ → ℕ → ℕ → Bool
 isSeen k table s e = isMarked table (above (insert s e) k)

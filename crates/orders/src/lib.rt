@@ -14,7 +14,7 @@ ghost use Rattle.orders.specs.Step.{Ready};
 ghost use Rattle.orders.specs.Tables.{tabled};
 ghost use Rattle.orders.specs.Answer.{Fits, Told, Answered};
 ghost use Rattle.orders.specs.Reachable.{Tallied};
-ghost use Rattle.orders.specs.Walk.{Readers, Unbarred, Writers, Gathered, Tried, NextIs, Starting, Entered, Walked, Counting, Searched};
+ghost use Rattle.orders.specs.Walk.{Readers, Unplaced, Unbarred, Writers, Gathered, Tried, NextIs, Starting, Entered, Walked, Counting, Searched};
 use sets::SLOTS;
 
 // How many masks of bars there are: one for each v and w.
@@ -93,6 +93,14 @@ fn may(m: usize, before: &[u32; SLOTS], bars: &[u32; PAIRS], writers: u32, s: u3
 
 // ---- a walk through the sets
 
+// The events from `from` on, of the first m, that are not in the set s.
+fn unplaced(m: usize, s: u32, from: usize) -> u32
+    requires { ⌜ (m ≤ slots) × (from ≤ m) ⌝ }
+    ensures { λ r. ⌜ Unplaced m s from r ⌝ }
+{
+    sets::full(m) & !sets::full(from) & !s
+}
+
 // The lowest event from `from` on that can be placed after those of the set s and leads to a set that is not marked; m if there is none.
 fn next(
     k: usize,
@@ -107,15 +115,16 @@ fn next(
     requires { ⌜ (m ≤ slots) × (k ≤ from) × (from ≤ m) × Gathered m (now bars) (now writers) × Tried (tabled m (now before) (now bars)) k (now table) s from ⌝ }
     ensures { λ r. ⌜ NextIs (tabled m (now (before .entry)) (now (bars .entry))) k (now (table .entry)) s r ⌝ }
 {
-    let mut e = from;
-    while e < m {
+    let mut left = unplaced(m, s, from);
+    while left != 0 {
+        let e = sets::lowest(left);
         if may(m, before, bars, writers[e], s, e) {
             let x = sets::above(sets::with(s, e), k);
             if !sets::marked(table, x as usize) {
                 return e;
             }
         }
-        e += 1;
+        left = sets::without(left, e);
     }
     m
 }

@@ -28,7 +28,7 @@ static void print_line(uint64_t word, const uint8_t *order) {
         }
         printf("\n");
         break;
-    default:
+    case PLIMDRONG_CONSISTENT:
         if (PLIMDRONG_NUMBER(word) == PLIMDRONG_ORDERLY) {
             printf("consistent orderly then");
         } else {
@@ -38,6 +38,9 @@ static void print_line(uint64_t word, const uint8_t *order) {
             printf(" %u", (unsigned)order[i]);
         }
         printf("\n");
+        break;
+    default:
+        printf("an answer that this program does not know: kind %u\n", (unsigned)PLIMDRONG_KIND(word));
     }
 }
 

@@ -6,21 +6,22 @@
 --     overlap-left, overlap-right, across-first, across-none, across-rest     the accesses of two events, tested one after another
 --     row-at                               the row that the code reads at a place
 use mathlib.Core.Path.{_≡_, sym, ap, _∙_}
-use mathlib.Core.Bool.{Bool, true, false, cond}
+use mathlib.Core.Bool.{Bool, true, false, cond, _&&_, _||_}
 use mathlib.Core.List.{List}
 use Prim.Native.Nat.{ℕ, _+_, _*_, _%_, _<_}
 use native.Mathlib.Nat.{mod-eq-of-lt}
 use native.Mathlib.Omega.{arith}
-use lib.Dec.{ltb}
+use borrow.Author.Tests.{eqb-true}
+use lib.Dec.{ltb, eqb}
 use Rattle.format.specs.declared.Shape.{Shape}
 use Rattle.format.specs.declared.Row.{Row}
 use Rattle.basis.specs.Test.{_and_, _or_}
 use Rattle.basis.proofs.LoopLaws.{or-holds, or-fails}
-use Rattle.basis.proofs.BoolLaws.{and-false}
+use Rattle.basis.proofs.BoolLaws.{and-false, bar-or}
 use Rattle.format.specs.Shape.{noShape, covers, overlap}
 use Rattle.sets.specs.Mask.{slots}
-use Rattle.sets.proofs.BoolLaws.{by-bool}
-use Rattle.tables.specs.Tables.{agentRoom, agentIn, accesses, shapeIn, slotIn, atIn, rowRoom, rowIn, pairIn}
+use Rattle.sets.proofs.BoolLaws.{by-bool, and-parts}
+use Rattle.tables.specs.Tables.{agentRoom, agentIn, accesses, shapeIn, slotIn, atIn, rowRoom, rowIn, pairIn, acrossIn}
 
 module _ (t : List ℕ) (e a : ℕ) where
   pub slot-first : covers (shapeIn t (2 * e)) a ≡ true → slotIn t e a ≡ 2 * e
@@ -79,12 +80,39 @@ unfolding overlap _and_
 overlap-right a b e =
     ap (λ (w : ℕ). ltb 0 (a .width) and ltb 0 w and ltb (a .start) (b .start + b .width) and ltb (b .start) (a .start + a .width)) e ∙ and-false (ltb 0 (a .width))
 
-module _ (a b c f : Bool) where
-  pub across-first : a ≡ true → true ≡ ((a or b) or (c or f))
-  across-first h = sym (or-holds (a or b) _ (or-holds a b h))
+-- R tested of the first accesses a, c, then, where one of the second accesses b, f is there, of the others
+module _ (R : Shape → Shape → Bool) (t : List ℕ) (e d : ℕ) (he : e < slots) (hd : d < slots) (a c : Shape) (is-a : a ≡ shapeIn t (2 * e % accesses))
+    (is-c : c ≡ shapeIn t (2 * d % accesses)) (r : Bool) (is : r ≡ R a c) where
+  at-a : a ≡ shapeIn t (2 * e)
+  at-a = is-a ∙ ap (shapeIn t) (mod-eq-of-lt (omega arith))
 
-  pub across-none : a ≡ false → b ≡ false → c ≡ false → f ≡ false → false ≡ ((a or b) or (c or f))
-  across-none h i j k = sym (or-fails (a or b) (c or f) (or-fails a b h ∙ i) ∙ or-fails c f j ∙ k)
+  at-c : c ≡ shapeIn t (2 * d)
+  at-c = is-c ∙ ap (shapeIn t) (mod-eq-of-lt (omega arith))
 
-  pub across-rest : a ≡ false → (b or (c or f)) ≡ ((a or b) or (c or f))
-  across-rest h = ap (λ (z : Bool). z or (c or f)) (sym (or-fails a b h))
+  first-two : r ≡ R (shapeIn t (2 * e)) (shapeIn t (2 * d))
+  first-two = is ∙ (λ z. R (at-a z) (at-c z))
+
+  pub across-first : r ≡ true → true ≡ acrossIn R t e d
+  across-first h = sym (or-holds _ _ (or-holds _ _ (sym first-two ∙ h)))
+
+  module _ (b f : Shape) (is-b : b ≡ shapeIn t ((2 * e + 1) % accesses)) (is-f : f ≡ shapeIn t ((2 * d + 1) % accesses)) (h : r ≡ false) where
+    at-b : b ≡ shapeIn t (2 * e + 1)
+    at-b = is-b ∙ ap (shapeIn t) (mod-eq-of-lt (omega arith))
+
+    at-f : f ≡ shapeIn t (2 * d + 1)
+    at-f = is-f ∙ ap (shapeIn t) (mod-eq-of-lt (omega arith))
+
+    pub across-none : ((x y : Shape) → x .width ≡ 0 → R x y ≡ false) → ((x y : Shape) → y .width ≡ 0 → R x y ≡ false)
+        → (eqb (b .width) 0 && eqb (f .width) 0) ≡ true → false ≡ acrossIn R t e d
+    across-none left right w =
+        let p = and-parts (eqb (b .width) 0) (eqb (f .width) 0) w in
+        let wb = ap (λ (s : Shape). s .width) (sym at-b) ∙ eqb-true (b .width) 0 (p .0) in
+        let wf = ap (λ (s : Shape). s .width) (sym at-f) ∙ eqb-true (f .width) 0 (p .1) in
+        sym (or-fails _ _ (or-fails _ _ (sym first-two ∙ h) ∙ right (shapeIn t (2 * e)) (shapeIn t (2 * d + 1)) wf)
+        ∙ or-fails _ _ (left (shapeIn t (2 * e + 1)) (shapeIn t (2 * d)) wb) ∙ left (shapeIn t (2 * e + 1)) (shapeIn t (2 * d + 1)) wb)
+
+    pub across-rest : (p q u : Bool) → p ≡ R a f → q ≡ R b c → u ≡ R b f → (p || (q || u)) ≡ acrossIn R t e d
+    across-rest p q u is-p is-q is-u =
+        bar-or p (q || u) ∙ ap (λ (z : Bool). p or z) (bar-or q u)
+        ∙ (λ z. (is-p ∙ (λ m. R (at-a m) (at-f m))) z or ((is-q ∙ (λ m. R (at-b m) (at-c m))) z or (is-u ∙ (λ m. R (at-b m) (at-f m))) z))
+        ∙ ap (λ (z : Bool). z or (R (shapeIn t (2 * e + 1)) (shapeIn t (2 * d)) or R (shapeIn t (2 * e + 1)) (shapeIn t (2 * d + 1)))) (sym (or-fails _ _ (sym first-two ∙ h)))

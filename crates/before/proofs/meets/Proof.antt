@@ -1,18 +1,9 @@
 -- `before::meets` meets its contract, access by access. Assumes nothing.
-use mathlib.Core.Path.{_≡_, sym, ap, _∙_}
-use mathlib.Core.Bool.{Bool, true}
-use Prim.Native.Nat.{_+_, _-_, _*_, _%_}
-use native.Mathlib.Nat.{mod-eq-of-lt}
+use Prim.Native.Nat.{_%_}
 use native.Mathlib.Omega.{arith}
-use borrow.Author.Tests.{eqb-true}
 use denote.Ref.{now}
-use Rattle.basis.specs.Test.{_or_}
-use Rattle.basis.proofs.BoolLaws.{bar-or}
-use Rattle.format.specs.declared.Shape.{Shape}
 use Rattle.sets.specs.Mask.{slots}
-use Rattle.sets.proofs.BoolLaws.{and-parts}
 use Rattle.format.specs.Shape.{overlap}
-use Rattle.tables.specs.Tables.{accesses, shapeIn}
 use Rattle.tables.proofs.TablesLaws.{overlap-left, overlap-right, across-first, across-none, across-rest}
 use Rattle.before.specs.Before.{meetsIn}
 use borrow.Author.Needs.{needs}
@@ -36,15 +27,7 @@ overlap-requires c κs = search needs
 
 returns : tie.Need-returns
 unfolding meetsIn
-returns c =
-    let e = c .before .before .before .before .args .e % slots in
-    let d = c .before .before .before .before .args .d % slots in
-    let i : (2 * e) % accesses ≡ 2 * e = mod-eq-of-lt (omega arith) in
-    let j : (2 * d) % accesses ≡ 2 * d = mod-eq-of-lt (omega arith) in
-    let sa : c .before .before .before .shape .result ≡ shapeIn (now (c .before .before .before .before .args .t)) (2 * e) = c .before .before .before .shape .ensures ∙ ap (shapeIn (now (c .before .before .before .before .args .t))) i in
-    let sc : c .before .before .shape2 .result ≡ shapeIn (now (c .before .before .before .before .args .t)) (2 * d) = c .before .before .shape2 .ensures ∙ ap (shapeIn (now (c .before .before .before .before .args .t))) j in
-    let y = sym (c .before .overlap .ensures ∙ (λ z. overlap (sa z) (sc z))) ∙ c .if1 .taken in
-    across-first (overlap (shapeIn (now (c .before .before .before .before .args .t)) (2 * e)) (shapeIn (now (c .before .before .before .before .args .t)) (2 * d))) _ _ _ y
+returns c = across-first overlap (now (c .before .before .before .before .args .t)) (c .before .before .before .before .args .e % slots) (c .before .before .before .before .args .d % slots) (omega arith) (omega arith) (c .before .before .before .shape .result) (c .before .before .shape2 .result) (c .before .before .before .shape .ensures) (c .before .before .shape2 .ensures) (c .before .overlap .result) (c .before .overlap .ensures) (c .if1 .taken)
 
 add-shape : tie.Need-add-shape
 add-shape c = search needs
@@ -60,22 +43,7 @@ shape-requires-4 c κs = search needs
 
 returns-2 : tie.Need-returns-2
 unfolding meetsIn
-returns-2 c =
-    let e = c .before .before .before .before .before .before .before .before .before .args .e % slots in
-    let d = c .before .before .before .before .before .before .before .before .before .args .d % slots in
-    let i : (2 * e) % accesses ≡ 2 * e = mod-eq-of-lt (omega arith) in
-    let j : (2 * d) % accesses ≡ 2 * d = mod-eq-of-lt (omega arith) in
-    let k : (2 * e + 1) % accesses ≡ 2 * e + 1 = mod-eq-of-lt (omega arith) in
-    let l : (2 * d + 1) % accesses ≡ 2 * d + 1 = mod-eq-of-lt (omega arith) in
-    let sb : c .before .before .before .before .shape3 .result ≡ shapeIn (now (c .before .before .before .before .before .before .before .before .before .args .t)) (2 * e + 1) = c .before .before .before .before .shape3 .ensures ∙ ap (shapeIn (now (c .before .before .before .before .before .before .before .before .before .args .t))) k in
-    let sf : c .before .before .before .shape4 .result ≡ shapeIn (now (c .before .before .before .before .before .before .before .before .before .args .t)) (2 * d + 1) = c .before .before .before .shape4 .ensures ∙ ap (shapeIn (now (c .before .before .before .before .before .before .before .before .before .args .t))) l in
-    let sa : c .before .before .before .before .before .before .before .before .shape .result ≡ shapeIn (now (c .before .before .before .before .before .before .before .before .before .args .t)) (2 * e) = c .before .before .before .before .before .before .before .before .shape .ensures ∙ ap (shapeIn (now (c .before .before .before .before .before .before .before .before .before .args .t))) i in
-    let sc : c .before .before .before .before .before .before .before .shape2 .result ≡ shapeIn (now (c .before .before .before .before .before .before .before .before .before .args .t)) (2 * d) = c .before .before .before .before .before .before .before .shape2 .ensures ∙ ap (shapeIn (now (c .before .before .before .before .before .before .before .before .before .args .t))) j in
-    let y = sym (c .before .before .before .before .before .before .overlap .ensures ∙ (λ z. overlap (sa z) (sc z))) ∙ c .before .before .before .before .before .if1 .left in
-    let w = and-parts _ _ (c .if2 .taken) in
-    let wb = ap (λ (s : Shape). s .width) (sym sb) ∙ eqb-true _ 0 (w .0) in
-    let wf = ap (λ (s : Shape). s .width) (sym sf) ∙ eqb-true _ 0 (w .1) in
-    across-none (overlap (shapeIn (now (c .before .before .before .before .before .before .before .before .before .args .t)) (2 * e)) (shapeIn (now (c .before .before .before .before .before .before .before .before .before .args .t)) (2 * d))) _ _ _ y (overlap-right _ _ wf) (overlap-left _ _ wb) (overlap-left _ _ wb)
+returns-2 c = across-none overlap (now (c .before .before .before .before .before .before .before .before .before .args .t)) (c .before .before .before .before .before .before .before .before .before .args .e % slots) (c .before .before .before .before .before .before .before .before .before .args .d % slots) (omega arith) (omega arith) (c .before .before .before .before .before .before .before .before .shape .result) (c .before .before .before .before .before .before .before .shape2 .result) (c .before .before .before .before .before .before .before .before .shape .ensures) (c .before .before .before .before .before .before .before .shape2 .ensures) (c .before .before .before .before .before .before .overlap .result) (c .before .before .before .before .before .before .overlap .ensures) (c .before .before .before .before .shape3 .result) (c .before .before .before .shape4 .result) (c .before .before .before .before .shape3 .ensures) (c .before .before .before .shape4 .ensures) (c .before .before .before .before .before .if1 .left) overlap-left overlap-right (c .if2 .taken)
 
 overlap-requires-2 : tie.Need-overlap-requires-2
 overlap-requires-2 c κs = search needs
@@ -88,21 +56,7 @@ overlap-requires-4 c κs = search needs
 
 returns-3 : tie.Need-returns-3
 unfolding meetsIn
-returns-3 c =
-    let e = c .before .before .before .before .before .before .before .before .before .before .before .before .args .e % slots in
-    let d = c .before .before .before .before .before .before .before .before .before .before .before .before .args .d % slots in
-    let i : (2 * e) % accesses ≡ 2 * e = mod-eq-of-lt (omega arith) in
-    let j : (2 * d) % accesses ≡ 2 * d = mod-eq-of-lt (omega arith) in
-    let k : (2 * e + 1) % accesses ≡ 2 * e + 1 = mod-eq-of-lt (omega arith) in
-    let l : (2 * d + 1) % accesses ≡ 2 * d + 1 = mod-eq-of-lt (omega arith) in
-    let sb : c .before .before .before .before .before .before .before .shape3 .result ≡ shapeIn (now (c .before .before .before .before .before .before .before .before .before .before .before .before .args .t)) (2 * e + 1) = c .before .before .before .before .before .before .before .shape3 .ensures ∙ ap (shapeIn (now (c .before .before .before .before .before .before .before .before .before .before .before .before .args .t))) k in
-    let sf : c .before .before .before .before .before .before .shape4 .result ≡ shapeIn (now (c .before .before .before .before .before .before .before .before .before .before .before .before .args .t)) (2 * d + 1) = c .before .before .before .before .before .before .shape4 .ensures ∙ ap (shapeIn (now (c .before .before .before .before .before .before .before .before .before .before .before .before .args .t))) l in
-    let sa : c .before .before .before .before .before .before .before .before .before .before .before .shape .result ≡ shapeIn (now (c .before .before .before .before .before .before .before .before .before .before .before .before .args .t)) (2 * e) = c .before .before .before .before .before .before .before .before .before .before .before .shape .ensures ∙ ap (shapeIn (now (c .before .before .before .before .before .before .before .before .before .before .before .before .args .t))) i in
-    let sc : c .before .before .before .before .before .before .before .before .before .before .shape2 .result ≡ shapeIn (now (c .before .before .before .before .before .before .before .before .before .before .before .before .args .t)) (2 * d) = c .before .before .before .before .before .before .before .before .before .before .shape2 .ensures ∙ ap (shapeIn (now (c .before .before .before .before .before .before .before .before .before .before .before .before .args .t))) j in
-    let y = sym (c .before .before .before .before .before .before .before .before .before .overlap .ensures ∙ (λ z. overlap (sa z) (sc z))) ∙ c .before .before .before .before .before .before .before .before .if1 .left in
-    bar-or (c .before .before .overlap2 .result) _ ∙ ap (λ (z : Bool). c .before .before .overlap2 .result or z) (bar-or (c .before .overlap3 .result) (c .overlap4 .result))
-    ∙ (λ z. (c .before .before .overlap2 .ensures ∙ (λ m. overlap (sa m) (sf m))) z or ((c .before .overlap3 .ensures ∙ (λ m. overlap (sb m) (sc m))) z or (c .overlap4 .ensures ∙ (λ m. overlap (sb m) (sf m))) z))
-    ∙ across-rest (overlap (shapeIn (now (c .before .before .before .before .before .before .before .before .before .before .before .before .args .t)) (2 * e)) (shapeIn (now (c .before .before .before .before .before .before .before .before .before .before .before .before .args .t)) (2 * d))) _ _ _ y
+returns-3 c = across-rest overlap (now (c .before .before .before .before .before .before .before .before .before .before .before .before .args .t)) (c .before .before .before .before .before .before .before .before .before .before .before .before .args .e % slots) (c .before .before .before .before .before .before .before .before .before .before .before .before .args .d % slots) (omega arith) (omega arith) (c .before .before .before .before .before .before .before .before .before .before .before .shape .result) (c .before .before .before .before .before .before .before .before .before .before .shape2 .result) (c .before .before .before .before .before .before .before .before .before .before .before .shape .ensures) (c .before .before .before .before .before .before .before .before .before .before .shape2 .ensures) (c .before .before .before .before .before .before .before .before .before .overlap .result) (c .before .before .before .before .before .before .before .before .before .overlap .ensures) (c .before .before .before .before .before .before .before .shape3 .result) (c .before .before .before .before .before .before .shape4 .result) (c .before .before .before .before .before .before .before .shape3 .ensures) (c .before .before .before .before .before .before .shape4 .ensures) (c .before .before .before .before .before .before .before .before .if1 .left) (c .before .before .overlap2 .result) (c .before .overlap3 .result) (c .overlap4 .result) (c .before .before .overlap2 .ensures) (c .before .overlap3 .ensures) (c .overlap4 .ensures)
 
 pub meets-spec : {M : Type 1} → statement M
 meets-spec =

@@ -2,6 +2,7 @@
 --     first-of            firstOf is the first                   first-unique, first-is     there is one
 --     first-found, first-none     what a loop answers            first-find                 as a search through a list
 --     first-or            of two tests together
+--     first-past, first-below     a loop that has come to the end or beyond; two tests that agree below n
 --     lowest-first        the lowest of a set is its first member
 --     Left, left-start, left-lowest, left-hit, left-next, left-end     a loop over the members of a set, for the first that passes
 use mathlib.Core.Path.{_≡_, refl, sym, ap, _∙_, subst}
@@ -94,6 +95,20 @@ first-or p q n =
     either f g (no k) h =
         let e : min (firstOf p n) (firstOf q n) ≡ firstOf p n = omega (arith, k) in
         subst (λ (x : ℕ). (p x or q x) ≡ true) (sym e) (or-holds (p (firstOf p n)) (q (firstOf p n)) (f .passes (omega arith)))
+
+pub first-past : (p : ℕ → Bool) (n j : ℕ) → n ≤ j → ((d : ℕ) → d < j → p d ≡ false) → n ≡ firstOf p n
+first-past p n j h l = first-is p (record { within = omega arith; passes = λ z. absurd (omega arith); least = λ d z. l d (omega arith) })
+
+-- two tests that agree below n
+pub first-below : (p q : ℕ → Bool) (n k : ℕ) → n ≤ k → ((d : ℕ) → d < n → p d ≡ q d) → min (firstOf p k) n ≡ firstOf q n
+first-below p q n k few same =
+    let f = first-of p k in
+    first-is q
+    (record {
+      within = omega arith;
+      passes = λ h. let z : min (firstOf p k) n ≡ firstOf p k = omega arith in sym (same (min (firstOf p k) n) h) ∙ ap p z ∙ f .passes (omega arith);
+      least = λ d h. sym (same d (omega arith)) ∙ f .least d (omega arith);
+    })
 
 -- ---- the members of a set
 

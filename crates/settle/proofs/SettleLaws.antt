@@ -2,7 +2,6 @@
 --     clash-apart, clash-meet, clash-left, clash-right     when two accesses clash
 --     ahead-is                       the mask of those to try
 --     free-shut, free-open           a pair that happens-before settles, and another
---     first-past                     a loop that has come to the end or beyond
 --     partner-start, partner-hit, partner-end     a loop over those to try
 --     settled-found, settled-none    what the search answers
 use mathlib.Core.Path.{_≡_, sym, ap, _∙_}
@@ -26,7 +25,7 @@ use Rattle.sets.proofs.MaskLaws.{mem-diff, mem-full, full-has, lt-of-members, e
 use Rattle.answer.specs.declared.Settled.the-variants.{Orderly, Unsettled}
 use Rattle.cells.specs.First.{firstOf}
 use Rattle.cells.specs.Walk.{picked}
-use Rattle.cells.proofs.FirstLaws.{first-of, first-is, first-found, Left, left-start, left-lowest, left-hit, left-end}
+use Rattle.cells.proofs.FirstLaws.{first-found, Left, left-start, left-lowest, left-hit, left-end, first-past, first-below}
 use Rattle.cells.proofs.WalkLaws.{mem-picked}
 use Rattle.tables.proofs.TablesLaws.{overlap-left, overlap-right}
 use Rattle.settle.specs.Settle.{clashing, clashIn, aheadIn, freeIn, openIn, partnerIn, looseIn, settledIn}
@@ -98,20 +97,6 @@ module _ (row n e : ℕ) (few : n ≤ slots) (at : e < slots) (w : row < 2 ^ slo
       ∙ ap (λ (x : Bool). x and non (mem row d)) (later-mem d)
       ∙ and-assoc (ltb d n) (ltb e d) (non (mem row d))
       ∙ sym (mem-picked n (aheadIn row e) d))
-
-pub first-past : (p : ℕ → Bool) (n j : ℕ) → n ≤ j → ((d : ℕ) → d < j → p d ≡ false) → n ≡ firstOf p n
-first-past p n j h l = first-is p (record { within = omega arith; passes = λ z. absurd (omega arith); least = λ d z. l d (omega arith) })
-
--- two tests that agree below n
-first-below : (p q : ℕ → Bool) (n k : ℕ) → n ≤ k → ((d : ℕ) → d < n → p d ≡ q d) → min (firstOf p k) n ≡ firstOf q n
-first-below p q n k few same =
-    let f = first-of p k in
-    first-is q
-    (record {
-      within = omega arith;
-      passes = λ h. let z : min (firstOf p k) n ≡ firstOf p k = omega arith in sym (same (min (firstOf p k) n) h) ∙ ap p z ∙ f .passes (omega arith);
-      least = λ d h. sym (same d (omega arith)) ∙ f .least d (omega arith);
-    })
 
 -- a loop over those to try, of which `left` has the rest
 pub partner-start : (t succ : List ℕ) (n e : ℕ) → n ≤ slots → Left (freeIn t succ e) (picked n (aheadIn (getD succ e 0) e)) (picked n (aheadIn (getD succ e 0) e))

@@ -8,11 +8,15 @@ use libc::STDERR_FILENO;
 use libc::STDIN_FILENO;
 use libc::STDOUT_FILENO;
 
-// A length of more than one byte over the longest sheet is taken for that: too long all the same.
-fn length_of(high: u8, low: u8) -> usize
+// A length of two bytes.
+fn length_of(high: u8, low: u8) -> usize {
+    (high as usize) * 256 + low as usize
+}
+
+// How many bytes of a sheet of n are held: one over the longest sheet is too long, as all of them are.
+fn held(n: usize) -> usize
     ensures { λ r. ⌜ r ≤ maxBytes + 1 ⌝ }
 {
-    let n = (high as usize) * 256 + low as usize;
     if n < tell::SHEET_BYTES {
         n
     } else {
@@ -51,13 +55,28 @@ fn ended(got: usize) {
     }
 }
 
-// The next n bytes of the input as a sheet; false where the input ends before.
-fn sheet_of(space: &mut [u8], n: usize) -> bool
-    requires { ⌜ n ≤ length (now space) ⌝ }
+// Passes over what is not held of a sheet of n bytes; false where the input ends before.
+fn passed(n: usize) -> bool {
+    let mut next = [0u8; 1];
+    for _ in tell::SHEET_BYTES..n {
+        if io::read_full(STDIN_FILENO, &mut next) == 0 {
+            return false;
+        }
+    }
+    true
+}
+
+// The next sheet, of n bytes, k of them held; false where the input ends before.
+fn sheet_of(space: &mut [u8], n: usize, k: usize) -> bool
+    requires { ⌜ k ≤ length (now space) ⌝ }
 {
-    let part = &mut space[..n];
-    let k = io::read_full(STDIN_FILENO, part);
-    if k < n {
+    let part = &mut space[..k];
+    let got = io::read_full(STDIN_FILENO, part);
+    if got < k {
+        cut();
+        return false;
+    }
+    if !passed(n) {
         cut();
         return false;
     }
@@ -76,7 +95,7 @@ fn one(space: &mut [u8]) -> bool
         return false;
     }
     let n = length_of(head[0], head[1]);
-    sheet_of(space, n)
+    sheet_of(space, n, held(n))
 }
 
 fn all(space: &mut [u8])

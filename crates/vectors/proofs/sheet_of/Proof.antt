@@ -23,14 +23,26 @@ same-length c = search needs
 returns : tie.Need-returns
 returns c = search needs
 
-told-requires : tie.Need-told-requires
-told-requires c κs = search needs
+passed-requires : tie.Need-passed-requires
+passed-requires c κs = search needs
+
+cut-requires-2 : tie.Need-cut-requires-2
+cut-requires-2 c κs = search needs
 
 same-length-2 : tie.Need-same-length-2
 same-length-2 c = search needs
 
 returns-2 : tie.Need-returns-2
 returns-2 c = search needs
+
+told-requires : tie.Need-told-requires
+told-requires c κs = search needs
+
+same-length-3 : tie.Need-same-length-3
+same-length-3 c = search needs
+
+returns-3 : tie.Need-returns-3
+returns-3 c = search needs
 
 pub sheet-of-spec : {M : Type 1} → statement M
 sheet-of-spec =
@@ -42,6 +54,10 @@ sheet-of-spec =
     cut-requires
     same-length
     returns
-    told-requires
+    passed-requires
+    cut-requires-2
     same-length-2
-    returns-2)
+    returns-2
+    told-requires
+    same-length-3
+    returns-3)

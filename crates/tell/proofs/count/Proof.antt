@@ -18,31 +18,24 @@ Inv-loop order n₀ n = (n ≤ length order) × (placed order ≡ take n order +
 abbrev μ-loop : tie.MeasureT-loop
 μ-loop order n₀ n = length order - n
 
--- src/lib.rt:13:5
 loop-holds : tie.Need-loop-holds Inv-loop μ-loop
 loop-holds c = (omega arith, refl)
 
--- src/lib.rt:14:12
 shared-slice-read-if1 : tie.Need-shared-slice-read-if1 Inv-loop μ-loop
 shared-slice-read-if1 c = search needs
 
--- src/lib.rt:15:13
 returns : tie.Need-returns Inv-loop μ-loop
 returns c = (omega arith, placed-stop (now (c .before .before .before .before .args .order)) (c .before .before .before .loop .n) (c .before .before .before .loop .inv .1) (c .before .before .loop-test .taken) (c .if1 .taken))
 
--- src/lib.rt:17:9
 add-n : tie.Need-add-n Inv-loop μ-loop
 add-n c = search needs
 
--- src/lib.rt:13:5
 loop-less : tie.Need-loop-less Inv-loop μ-loop
 loop-less c = search needs
 
--- src/lib.rt:13:5
 loop-again : tie.Need-loop-again Inv-loop μ-loop
 loop-again c = (omega arith, placed-more (now (c .before .before .before .before .args .order)) (c .before .before .before .loop .n) (c .before .before .before .loop .inv .1) (c .before .before .loop-test .taken) (c .if1 .left))
 
--- src/lib.rt:8:1
 returns-2 : tie.Need-returns-2 Inv-loop μ-loop
 returns-2 c = (c .before .loop .inv .0, placed-end (now (c .before .before .args .order)) (c .before .loop .n) (c .before .loop .inv .1) (c .loop-test .left))
 

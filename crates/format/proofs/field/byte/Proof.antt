@@ -6,15 +6,12 @@ use borrow.Author.Needs.{needs}
 use Rattle.format.proofs.field.byte.Statement.{statement}
 use Rattle.format.proofs.field.byte.Tie as tie
 
--- src/field.rt:11:23
 shared-slice-read-result : tie.Need-shared-slice-read-result
 shared-slice-read-result c = search needs
 
--- src/field.rt:8:1
 returns : tie.Need-returns
 returns c = search needs
 
--- src/field.rt:8:1
 returns-2 : tie.Need-returns-2
 returns-2 c = sym (List·getD-eq-default (now (c .before .args .s)) 0 {n = c .before .args .at} (search needs))
 

@@ -9,65 +9,50 @@ use borrow.Author.Needs.{needs}
 use Rattle.format.proofs.field.value_at.Statement.{statement}
 use Rattle.format.proofs.field.value_at.Tie as tie
 
--- src/field.rt:25:15
 length-at-requires : tie.Need-length-at-requires
 length-at-requires c κs = search needs
 
--- src/field.rt:25:15
 cast-len : tie.Need-cast-len
 cast-len c = search needs
 
--- src/field.rt:26:17
 add-start : tie.Need-add-start
 add-start c = search needs
 
--- src/field.rt:28:19
 sub-if2 : tie.Need-sub-if2
 sub-if2 c = search needs
 
--- src/field.rt:29:23
 add-result : tie.Need-add-result
 add-result c = search needs
 
--- src/field.rt:29:13
 sub-result : tie.Need-sub-result
 sub-result c = search needs
 
--- src/field.rt:29:13
 part-result-start : tie.Need-part-result-start
 part-result-start c = search needs
 
--- src/field.rt:29:13
 part-result-end : tie.Need-part-result-end
 part-result-end c = search needs
 
--- src/field.rt:31:13
 sub-result-2 : tie.Need-sub-result-2
 sub-result-2 c = search needs
 
--- src/field.rt:31:13
 part-result-start-2 : tie.Need-part-result-start-2
 part-result-start-2 c = search needs
 
--- src/field.rt:31:13
 part-result-end-2 : tie.Need-part-result-end-2
 part-result-end-2 c = search needs
 
--- src/field.rt:34:9
 slice-aggregate-result : tie.Need-slice-aggregate-result
 slice-aggregate-result c = search needs
 
--- src/field.rt:22:1
 returns : tie.Need-returns
 unfolding valueAt
 returns c = simp (add-sub-cancel-left, c .before .before .before .length-at .ensures)
 
--- src/field.rt:22:1
 returns-2 : tie.Need-returns-2
 unfolding valueAt
 returns-2 c = simp (← c .before .before .before .length-at .ensures) (part-short (now (c .before .before .before .before .before .args .s)) (c .before .before .before .before .before .args .at + 3) (c .before .before .before .length-at .result) (omega arith))
 
--- src/field.rt:22:1
 returns-3 : tie.Need-returns-3
 unfolding valueAt
 returns-3 c = simp (← c .before .before .length-at .ensures) (part-none (now (c .before .before .before .before .args .s)) (c .before .before .before .before .args .at + 3) (c .before .before .length-at .result) (omega arith))

@@ -4,7 +4,6 @@ use Rattle.format.specs.Layout.{eventBytes}
 use Rattle.format.proofs.layout.event_bytes.Statement.{statement}
 use Rattle.format.proofs.layout.event_bytes.Tie as tie
 
--- src/layout.rt:17:1
 returns : tie.Need-returns
 unfolding eventBytes
 returns c = refl

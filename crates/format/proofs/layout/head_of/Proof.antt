@@ -3,19 +3,15 @@ use borrow.Author.Needs.{needs}
 use Rattle.format.proofs.layout.head_of.Statement.{statement}
 use Rattle.format.proofs.layout.head_of.Tie as tie
 
--- src/layout.rt:34:18
 byte-requires : tie.Need-byte-requires
 byte-requires c κs = search needs
 
--- src/layout.rt:35:17
 byte-requires-2 : tie.Need-byte-requires-2
 byte-requires-2 c κs = search needs
 
--- src/layout.rt:36:15
 byte-requires-3 : tie.Need-byte-requires-3
 byte-requires-3 c κs = search needs
 
--- src/layout.rt:30:1
 returns : tie.Need-returns
 returns c = simp (c .before .before .byte .ensures, c .before .byte2 .ensures, c .byte3 .ensures)
 

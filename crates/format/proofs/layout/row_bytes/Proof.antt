@@ -4,7 +4,6 @@ use Rattle.format.specs.Layout.{rowBytes}
 use Rattle.format.proofs.layout.row_bytes.Statement.{statement}
 use Rattle.format.proofs.layout.row_bytes.Tie as tie
 
--- src/layout.rt:24:1
 returns : tie.Need-returns
 unfolding rowBytes
 returns c = refl

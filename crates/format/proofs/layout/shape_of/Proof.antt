@@ -3,27 +3,21 @@ use borrow.Author.Needs.{needs}
 use Rattle.format.proofs.layout.shape_of.Statement.{statement}
 use Rattle.format.proofs.layout.shape_of.Tie as tie
 
--- src/layout.rt:62:9
 byte-requires : tie.Need-byte-requires
 byte-requires c κs = search needs
 
--- src/layout.rt:63:9
 byte-requires-2 : tie.Need-byte-requires-2
 byte-requires-2 c κs = search needs
 
--- src/layout.rt:64:9
 byte-requires-3 : tie.Need-byte-requires-3
 byte-requires-3 c κs = search needs
 
--- src/layout.rt:65:9
 byte-requires-4 : tie.Need-byte-requires-4
 byte-requires-4 c κs = search needs
 
--- src/layout.rt:71:15
 tear-of-requires : tie.Need-tear-of-requires
 tear-of-requires c κs = search needs
 
--- src/layout.rt:59:1
 returns : tie.Need-returns
 returns c = simp (c .tear-of .ensures, c .before .before .before .before .byte .ensures, c .before .before .before .byte2 .ensures, c .before .before .byte3 .ensures, c .before .byte4 .ensures)
 

@@ -5,16 +5,13 @@ use borrow.Author.Needs.{needs}
 use Rattle.format.proofs.layout.tear_of.Statement.{statement}
 use Rattle.format.proofs.layout.tear_of.Tie as tie
 
--- src/layout.rt:55:60
 unbroken-requires : tie.Need-unbroken-requires
 unbroken-requires c κs = search needs
 
--- src/layout.rt:52:1
 returns : tie.Need-returns
 unfolding tearOf _and_ _or_ non
 returns c = simp (simp (c .before .unbroken .ensures) at (c .if1 .taken))
 
--- src/layout.rt:52:1
 returns-2 : tie.Need-returns-2
 unfolding tearOf _and_ _or_ non
 returns-2 c = simp (simp (c .before .unbroken .ensures) at (c .if1 .left))

@@ -7,22 +7,18 @@ use Rattle.format.specs.Shape.{divides}
 use Rattle.format.proofs.layout.unbroken.Statement.{statement}
 use Rattle.format.proofs.layout.unbroken.Tie as tie
 
--- src/layout.rt:41:1
 returns : tie.Need-returns
 unfolding divides _and_ _or_
 returns c = simp (c .match .keys1, mod-one)
 
--- src/layout.rt:41:1
 returns-2 : tie.Need-returns-2
 unfolding divides _and_ _or_
 returns-2 c = simp (c .match .keys2)
 
--- src/layout.rt:41:1
 returns-3 : tie.Need-returns-3
 unfolding divides _and_ _or_
 returns-3 c = simp (c .match .keys3)
 
--- src/layout.rt:41:1
 returns-4 : tie.Need-returns-4
 unfolding _and_ _or_
 returns-4 c = simp (ne-eqb _ _ (c .match .rest .0 .0 .1), ne-eqb _ _ (c .match .rest .0 .1), ne-eqb _ _ (c .match .rest .1))

@@ -6,19 +6,15 @@ use borrow.Author.Needs.{needs}
 use Rattle.format.proofs.tests.covers.Statement.{statement}
 use Rattle.format.proofs.tests.covers.Tie as tie
 
--- src/tests.rt:21:36
 cast-result : tie.Need-cast-result
 cast-result c = search needs
 
--- src/tests.rt:21:53
 cast-result-2 : tie.Need-cast-result-2
 cast-result-2 c = search needs
 
--- src/tests.rt:21:36
 add-result : tie.Need-add-result
 add-result c = search needs
 
--- src/tests.rt:18:1
 returns : tie.Need-returns
 unfolding covers _and_
 returns c = refl

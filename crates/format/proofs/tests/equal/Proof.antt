@@ -5,7 +5,6 @@ use Rattle.format.specs.Shape.{equal}
 use Rattle.format.proofs.tests.equal.Statement.{statement}
 use Rattle.format.proofs.tests.equal.Tie as tie
 
--- src/tests.rt:34:1
 returns : tie.Need-returns
 unfolding equal _and_
 returns c = refl

@@ -6,39 +6,30 @@ use borrow.Author.Needs.{needs}
 use Rattle.format.proofs.tests.overlap.Statement.{statement}
 use Rattle.format.proofs.tests.overlap.Tie as tie
 
--- src/tests.rt:28:17
 cast-a-end : tie.Need-cast-a-end
 cast-a-end c = search needs
 
--- src/tests.rt:28:34
 cast-a-end-2 : tie.Need-cast-a-end-2
 cast-a-end-2 c = search needs
 
--- src/tests.rt:28:17
 add-a-end : tie.Need-add-a-end
 add-a-end c = search needs
 
--- src/tests.rt:29:17
 cast-b-end : tie.Need-cast-b-end
 cast-b-end c = search needs
 
--- src/tests.rt:29:34
 cast-b-end-2 : tie.Need-cast-b-end-2
 cast-b-end-2 c = search needs
 
--- src/tests.rt:29:17
 add-b-end : tie.Need-add-b-end
 add-b-end c = search needs
 
--- src/tests.rt:30:18
 cast-meet : tie.Need-cast-meet
 cast-meet c = search needs
 
--- src/tests.rt:30:47
 cast-meet-2 : tie.Need-cast-meet-2
 cast-meet-2 c = search needs
 
--- src/tests.rt:25:1
 returns : tie.Need-returns
 unfolding overlap _and_
 returns c = refl

@@ -5,7 +5,6 @@ use Rattle.format.specs.Shape.{reads}
 use Rattle.format.proofs.tests.reads.Statement.{statement}
 use Rattle.format.proofs.tests.reads.Tie as tie
 
--- src/tests.rt:6:1
 returns : tie.Need-returns
 unfolding reads _or_
 returns c = refl

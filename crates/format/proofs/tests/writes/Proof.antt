@@ -5,7 +5,6 @@ use Rattle.format.specs.Shape.{writes}
 use Rattle.format.proofs.tests.writes.Statement.{statement}
 use Rattle.format.proofs.tests.writes.Tie as tie
 
--- src/tests.rt:12:1
 returns : tie.Need-returns
 unfolding writes _or_
 returns c = refl

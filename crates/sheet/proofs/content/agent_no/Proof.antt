@@ -8,23 +8,18 @@ use borrow.Author.Needs.{needs}
 use Rattle.sheet.proofs.content.agent_no.Statement.{statement}
 use Rattle.sheet.proofs.content.agent_no.Tie as tie
 
--- src/content.rt:194:9
 returns : tie.Need-returns
 returns c = sym (agent-past (now (c .before .before .before .before .args .s)) (c .before .before .before .before .args .x .head .edition) (c .before .before .before .before .args .x .events) (now (c .before .before .before .before .args .at)) (c .before .before .before .before .args .e) (ltb-false _ _ (not-true _ (c .if1 .taken))))
 
--- src/content.rt:196:24
 mul-agent-at : tie.Need-mul-agent-at
 mul-agent-at c = search needs
 
--- src/content.rt:196:24
 shared-slice-read-agent-at : tie.Need-shared-slice-read-agent-at
 shared-slice-read-agent-at c = omega (arith, c .before .before .before .before .before .pre .room, ltb-true (c .before .before .before .before .before .args .e) (c .before .before .before .before .before .args .x .events) (not-false _ (c .before .if1 .left)))
 
--- src/content.rt:196:5
 agent-at-requires : tie.Need-agent-at-requires
 agent-at-requires c κs = search needs
 
--- src/content.rt:188:1
 returns-2 : tie.Need-returns-2
 returns-2 c = c .agent-at .ensures ∙ sym (agent-at (now (c .before .before .before .before .before .before .args .s)) (c .before .before .before .before .before .before .args .x .head .edition) (c .before .before .before .before .before .before .args .x .events) (now (c .before .before .before .before .before .before .args .at)) (c .before .before .before .before .before .before .args .e) (ltb-true _ _ (not-false _ (c .before .before .if1 .left))) (c .before .before .before .before .before .before .pre .room))
 

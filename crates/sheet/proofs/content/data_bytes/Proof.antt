@@ -5,20 +5,16 @@ use borrow.Author.Needs.{needs}
 use Rattle.sheet.proofs.content.data_bytes.Statement.{statement}
 use Rattle.sheet.proofs.content.data_bytes.Tie as tie
 
--- src/content.rt:131:17
 cast-width : tie.Need-cast-width
 cast-width c = search needs
 
--- src/content.rt:133:14
 add-result : tie.Need-add-result
 add-result c = search needs
 
--- src/content.rt:127:1
 returns : tie.Need-returns
 unfolding dataBytes
 returns c = simp (c .match .keys1)
 
--- src/content.rt:127:1
 returns-2 : tie.Need-returns-2
 unfolding dataBytes
 returns-2 c = simp (ne-eqb _ _ (c .match .rest .1))

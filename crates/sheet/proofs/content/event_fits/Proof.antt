@@ -17,32 +17,26 @@ use borrow.Author.Needs.{needs}
 use Rattle.sheet.proofs.content.event_fits.Statement.{statement}
 use Rattle.sheet.proofs.content.event_fits.Tie as tie
 
--- src/content.rt:116:17
 inside-requires : tie.Need-inside-requires
 inside-requires c κs = search needs
 
--- src/content.rt:116:42
 formed-requires : tie.Need-formed-requires
 formed-requires c κs = search needs
 
--- src/content.rt:118:9
 returns : tie.Need-returns
 unfolding eventFits _and_
 returns c = let h : (c .before .before .inside .result and c .before .formed .result) ≡ false = not-true _ (c .if1 .taken) in
     sym (and-fails (inside (c .before .before .before .before .before .args .x .head .size) (c .before .before .before .before .before .args .a) and formed (c .before .before .before .before .before .args .x .head .agents) (c .before .before .before .before .before .args .agent) (c .before .before .before .before .before .args .a)) _ (rw (c .before .before .inside .ensures, c .before .formed .ensures) at h))
 
--- src/content.rt:122:9
 returns-2 : tie.Need-returns-2
 unfolding eventFits _and_ non initial
 returns-2 c = let h : (c .before .before .before .before .inside .result and c .before .before .before .formed .result) ≡ true = not-false _ (c .before .before .if1 .left) in
     sym (and-holds (inside (c .before .before .before .before .before .before .before .args .x .head .size) (c .before .before .before .before .before .before .before .args .a) and formed (c .before .before .before .before .before .before .before .args .x .head .agents) (c .before .before .before .before .before .before .before .args .agent) (c .before .before .before .before .before .before .before .args .a)) _ (rw (c .before .before .before .before .inside .ensures, c .before .before .before .formed .ensures) at h)
     ∙ or-holds (non (initial (c .before .before .before .before .before .before .before .args .a))) _ (c .if2 .taken))
 
--- src/content.rt:124:5
 stands-first-requires : tie.Need-stands-first-requires
 stands-first-requires c κs = c .before .before .before .before .before .before .before .pre
 
--- src/content.rt:112:1
 returns-3 : tie.Need-returns-3
 unfolding eventFits _and_ non initial
 returns-3 c = let h : (c .before .before .before .before .before .inside .result and c .before .before .before .before .formed .result) ≡ true = not-false _ (c .before .before .before .if1 .left) in

@@ -5,34 +5,27 @@ use borrow.Author.Needs.{needs}
 use Rattle.sheet.proofs.content.formed.Statement.{statement}
 use Rattle.sheet.proofs.content.formed.Tie as tie
 
--- src/content.rt:79:14
 init-formed-requires : tie.Need-init-formed-requires
 init-formed-requires c κs = search needs
 
--- src/content.rt:80:14
 other-formed-requires : tie.Need-other-formed-requires
 other-formed-requires c κs = search needs
 
--- src/content.rt:81:14
 other-formed-requires-2 : tie.Need-other-formed-requires-2
 other-formed-requires-2 c κs = search needs
 
--- src/content.rt:74:1
 returns : tie.Need-returns
 unfolding formed
 returns c = simp (c .before .match .keys1, c .init-formed .ensures)
 
--- src/content.rt:74:1
 returns-2 : tie.Need-returns-2
 unfolding formed
 returns-2 c = simp (c .before .match .keys2, c .other-formed .ensures)
 
--- src/content.rt:74:1
 returns-3 : tie.Need-returns-3
 unfolding formed
 returns-3 c = simp (c .before .match .keys3, c .other-formed2 .ensures)
 
--- src/content.rt:74:1
 returns-4 : tie.Need-returns-4
 unfolding formed
 returns-4 c = simp (ne-eqb _ _ (c .match .rest .0 .0 .1), ne-eqb _ _ (c .match .rest .0 .1), ne-eqb _ _ (c .match .rest .1))

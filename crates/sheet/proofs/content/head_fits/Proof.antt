@@ -5,15 +5,12 @@ use borrow.Author.Needs.{needs}
 use Rattle.sheet.proofs.content.head_fits.Statement.{statement}
 use Rattle.sheet.proofs.content.head_fits.Tie as tie
 
--- src/content.rt:28:25
 within-requires : tie.Need-within-requires
 within-requires c κs = search needs
 
--- src/content.rt:28:50
 within-requires-2 : tie.Need-within-requires-2
 within-requires-2 c κs = search needs
 
--- src/content.rt:25:1
 returns : tie.Need-returns
 unfolding headFits _and_
 returns c = simp (c .before .within .ensures, c .within2 .ensures)

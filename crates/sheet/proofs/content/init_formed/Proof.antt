@@ -5,11 +5,9 @@ use borrow.Author.Needs.{needs}
 use Rattle.sheet.proofs.content.init_formed.Statement.{statement}
 use Rattle.sheet.proofs.content.init_formed.Tie as tie
 
--- src/content.rt:40:37
 within-requires : tie.Need-within-requires
 within-requires c κs = search needs
 
--- src/content.rt:37:1
 returns : tie.Need-returns
 unfolding initFormed _and_
 returns c = simp (c .within .ensures)

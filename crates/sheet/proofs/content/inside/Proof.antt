@@ -5,19 +5,15 @@ use borrow.Author.Needs.{needs}
 use Rattle.sheet.proofs.content.inside.Statement.{statement}
 use Rattle.sheet.proofs.content.inside.Tie as tie
 
--- src/content.rt:34:5
 cast-result : tie.Need-cast-result
 cast-result c = search needs
 
--- src/content.rt:34:22
 cast-result-2 : tie.Need-cast-result-2
 cast-result-2 c = search needs
 
--- src/content.rt:34:5
 add-result : tie.Need-add-result
 add-result c = search needs
 
--- src/content.rt:31:1
 returns : tie.Need-returns
 unfolding inside
 returns c = refl

@@ -9,23 +9,18 @@ use borrow.Author.Needs.{needs}
 use Rattle.sheet.proofs.content.is_marker.Statement.{statement}
 use Rattle.sheet.proofs.content.is_marker.Tie as tie
 
--- src/content.rt:181:9
 returns : tie.Need-returns
 returns c = sym (isMarker-past (now (c .before .before .before .before .args .s)) (c .before .before .before .before .args .x .head .edition) (c .before .before .before .before .args .x .events) (now (c .before .before .before .before .args .at)) (c .before .before .before .before .args .e) (ltb-false _ _ (not-true _ (c .if1 .taken))))
 
--- src/content.rt:183:32
 mul-shape-at : tie.Need-mul-shape-at
 mul-shape-at c = search needs
 
--- src/content.rt:183:32
 shared-slice-read-shape-at : tie.Need-shared-slice-read-shape-at
 shared-slice-read-shape-at c = omega (arith, c .before .before .before .before .before .pre .room, ltb-true (c .before .before .before .before .before .args .e) (c .before .before .before .before .before .args .x .events) (not-false _ (c .before .if1 .left)))
 
--- src/content.rt:183:9
 shape-at-requires : tie.Need-shape-at-requires
 shape-at-requires c κs = c .before .before .before .before .before .pre .held _ (ltb-true _ _ (not-false _ (c .before .if1 .left)))
 
--- src/content.rt:175:1
 returns-2 : tie.Need-returns-2
 unfolding marks
 returns-2 c = ap marks (c .before .shape-at .ensures) ∙ sym (isMarker-at (now (c .before .before .before .before .before .before .before .args .s)) (c .before .before .before .before .before .before .before .args .x .head .edition) (c .before .before .before .before .before .before .before .args .x .events) (now (c .before .before .before .before .before .before .before .args .at)) (c .before .before .before .before .before .before .before .args .e) (ltb-true _ _ (not-false _ (c .before .before .before .if1 .left))) (c .before .before .before .before .before .before .before .pre .room))

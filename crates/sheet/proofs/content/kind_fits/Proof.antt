@@ -7,39 +7,31 @@ use borrow.Author.Needs.{needs}
 use Rattle.sheet.proofs.content.kind_fits.Statement.{statement}
 use Rattle.sheet.proofs.content.kind_fits.Tie as tie
 
--- src/content.rt:60:14
 sized-requires : tie.Need-sized-requires
 sized-requires c κs = search needs
 
--- src/content.rt:61:14
 sized-requires-2 : tie.Need-sized-requires-2
 sized-requires-2 c κs = search needs
 
--- src/content.rt:62:30
 sized-requires-3 : tie.Need-sized-requires-3
 sized-requires-3 c κs = search needs
 
--- src/content.rt:55:1
 returns : tie.Need-returns
 unfolding kindFits
 returns c = simp (c .before .match .keys1, c .sized .ensures)
 
--- src/content.rt:55:1
 returns-2 : tie.Need-returns-2
 unfolding kindFits
 returns-2 c = simp (c .before .match .keys2, c .sized2 .ensures)
 
--- src/content.rt:55:1
 returns-3 : tie.Need-returns-3
 unfolding kindFits _and_ sc
 returns-3 c = simp (c .before .before .match .keys3, c .sized3 .ensures)
 
--- src/content.rt:55:1
 returns-4 : tie.Need-returns-4
 unfolding kindFits _and_ sc
 returns-4 c = simp (c .before .before .before .match .keys4)
 
--- src/content.rt:55:1
 returns-5 : tie.Need-returns-5
 unfolding kindFits
 returns-5 c = simp (ne-eqb _ _ (c .match .rest .0 .0 .0 .1), ne-eqb _ _ (c .match .rest .0 .0 .1), ne-eqb _ _ (c .match .rest .0 .1), ne-eqb _ _ (c .match .rest .1))

@@ -20,46 +20,36 @@ Inv-loop s at a n i₀ i = (i ≤ n) × ((edition : ℕ) → any (meets a) (even
 abbrev μ-loop : tie.MeasureT-loop
 μ-loop s at a n i₀ i = n - i
 
--- src/content.rt:93:5
 loop-holds : tie.Need-loop-holds Inv-loop μ-loop
 loop-holds c = (omega arith, λ edition. refl)
 
--- src/content.rt:94:20
 cast-p : tie.Need-cast-p Inv-loop μ-loop
 cast-p c = search needs
 
--- src/content.rt:94:17
 mul-p : tie.Need-mul-p Inv-loop μ-loop
 mul-p c = search needs
 
--- src/content.rt:94:17
 shared-slice-read-p : tie.Need-shared-slice-read-p Inv-loop μ-loop
 shared-slice-read-p c = omega (arith, c .before .before .before .before .before .pre .room)
 
--- src/content.rt:95:37
 shape-at-requires : tie.Need-shape-at-requires Inv-loop μ-loop
 shape-at-requires c κs = c .before .before .before .before .before .pre .held _ (c .before .loop-test .taken)
 
--- src/content.rt:95:13
 overlap-requires : tie.Need-overlap-requires Inv-loop μ-loop
 overlap-requires c κs = search needs
 
--- src/content.rt:97:13
 returns : tie.Need-returns Inv-loop μ-loop
 unfolding eventNo
 returns c = let k = events-count (now (c .before .before .before .before .before .before .before .before .args .s)) (c .before .before .before .before .before .before .before .before .args .x .head .edition) (c .before .before .before .before .before .before .before .before .args .x .events) (now (c .before .before .before .before .before .before .before .before .args .at)) (c .before .before .before .before .before .before .before .before .pre .room) in
     any-found (meets (c .before .before .before .before .before .before .before .before .args .a)) (eventsIn (now (c .before .before .before .before .before .before .before .before .args .s)) (c .before .before .before .before .before .before .before .before .args .x) (now (c .before .before .before .before .before .before .before .before .args .at))) (c .before .before .before .before .before .loop .i) nobody (c .before .before .before .before .before .loop .inv .1 (c .before .before .before .before .before .before .before .before .args .x .head .edition)) (rw k (c .before .before .before .before .loop-test .taken))
     (meets-at (now (c .before .before .before .before .before .before .before .before .args .s)) (c .before .before .before .before .before .before .before .before .args .x .head .edition) (c .before .before .before .before .before .before .before .before .args .x .events) (now (c .before .before .before .before .before .before .before .before .args .at)) (c .before .before .before .before .before .loop .i) (c .before .before .before .before .loop-test .taken) (c .before .before .before .before .before .before .before .before .pre .room) (c .before .before .before .before .before .before .before .before .args .a) ∙ sym (rw (c .before .before .shape-at .ensures) at (c .before .overlap .ensures)) ∙ c .if1 .taken)
 
--- src/content.rt:99:9
 add-i : tie.Need-add-i Inv-loop μ-loop
 add-i c = omega arith
 
--- src/content.rt:93:5
 loop-less : tie.Need-loop-less Inv-loop μ-loop
 loop-less c = omega arith
 
--- src/content.rt:93:5
 loop-again : tie.Need-loop-again Inv-loop μ-loop
 unfolding eventNo
 loop-again c = (
@@ -69,7 +59,6 @@ loop-again c = (
       (meets-at (now (c .before .before .before .before .before .before .before .before .args .s)) edition (c .before .before .before .before .before .before .before .before .args .x .events) (now (c .before .before .before .before .before .before .before .before .args .at)) (c .before .before .before .before .before .loop .i) (c .before .before .before .before .loop-test .taken) (c .before .before .before .before .before .before .before .before .pre .room) (c .before .before .before .before .before .before .before .before .args .a) ∙ sym (rw (c .before .before .shape-at .ensures) at (c .before .overlap .ensures)) ∙ c .if1 .left),
 )
 
--- src/content.rt:87:1
 returns-2 : tie.Need-returns-2 Inv-loop μ-loop
 returns-2 c = let k = events-count (now (c .before .before .before .before .args .s)) (c .before .before .before .before .args .x .head .edition) (c .before .before .before .before .args .x .events) (now (c .before .before .before .before .args .at)) (c .before .before .before .before .pre .room) in
     any-none (meets (c .before .before .before .before .args .a)) (eventsIn (now (c .before .before .before .before .args .s)) (c .before .before .before .before .args .x) (now (c .before .before .before .before .args .at))) (c .before .loop .i) (c .before .loop .inv .1 (c .before .before .before .before .args .x .head .edition)) (rw k (omega (arith, c .loop-test .left)))

@@ -5,15 +5,12 @@ use borrow.Author.Needs.{needs}
 use Rattle.sheet.proofs.content.other_formed.Statement.{statement}
 use Rattle.sheet.proofs.content.other_formed.Tie as tie
 
--- src/content.rt:71:5
 within-requires : tie.Need-within-requires
 within-requires c κs = search needs
 
--- src/content.rt:71:32
 kind-fits-requires : tie.Need-kind-fits-requires
 kind-fits-requires c κs = search needs
 
--- src/content.rt:68:1
 returns : tie.Need-returns
 unfolding otherFormed _and_
 returns c = simp (c .before .within .ensures, c .kind-fits .ensures)

@@ -5,7 +5,6 @@ use Rattle.format.specs.Execution.{pairBelow}
 use Rattle.sheet.proofs.content.pair_below.Statement.{statement}
 use Rattle.sheet.proofs.content.pair_below.Tie as tie
 
--- src/content.rt:224:1
 returns : tie.Need-returns
 unfolding pairBelow _and_ _or_
 returns c = refl

@@ -7,27 +7,21 @@ use borrow.Author.Needs.{needs}
 use Rattle.sheet.proofs.content.pair_fits.Statement.{statement}
 use Rattle.sheet.proofs.content.pair_fits.Tie as tie
 
--- src/content.rt:244:19
 agent-no-requires : tie.Need-agent-no-requires
 agent-no-requires c κs = search needs
 
--- src/content.rt:244:50
 agent-no-requires-2 : tie.Need-agent-no-requires-2
 agent-no-requires-2 c κs = search needs
 
--- src/content.rt:245:18
 is-marker-requires : tie.Need-is-marker-requires
 is-marker-requires c κs = search needs
 
--- src/content.rt:245:50
 is-marker-requires-2 : tie.Need-is-marker-requires-2
 is-marker-requires-2 c κs = search needs
 
--- src/content.rt:246:14
 pair-rises-requires : tie.Need-pair-rises-requires
 pair-rises-requires c κs = search needs
 
--- src/content.rt:240:1
 returns : tie.Need-returns
 unfolding pairFits parts _and_ non
 returns c = simp (c .before .before .is-marker .ensures, c .before .is-marker2 .ensures, c .before .before .before .before .agent-no .ensures, c .before .before .before .agent-no2 .ensures, c .pair-rises .ensures)

@@ -10,24 +10,19 @@ use borrow.Author.Needs.{needs}
 use Rattle.sheet.proofs.content.pair_rises.Statement.{statement}
 use Rattle.sheet.proofs.content.pair_rises.Tie as tie
 
--- src/content.rt:235:9
 returns : tie.Need-returns
 unfolding pairRises _or_
 returns c = simp (pairs-count, c .if1 .taken)
 
--- src/content.rt:237:37
 sub-pair-no : tie.Need-sub-pair-no
 sub-pair-no c = search needs
 
--- src/content.rt:237:16
 pair-no-requires : tie.Need-pair-no-requires
 pair-no-requires c κs = search needs
 
--- src/content.rt:237:5
 pair-below-requires : tie.Need-pair-below-requires
 pair-below-requires c κs = search needs
 
--- src/content.rt:230:1
 returns-2 : tie.Need-returns-2
 unfolding pairRises _or_
 returns-2 c = let h : c .before .before .before .before .args .x .pairs - 1 < c .before .before .before .before .args .x .pairs = omega (arith, c .before .before .if1 .left) in simp (c .pair-below .ensures, c .before .pair-no .ensures, pairs-count, ne-eqb _ _ (c .before .before .if1 .left), pair-at (now (c .before .before .before .before .args .s)) (c .before .before .before .before .args .x .«pairs_at») (c .before .before .before .before .args .x .pairs) (c .before .before .before .before .args .x .pairs - 1) h)

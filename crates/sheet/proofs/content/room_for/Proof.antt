@@ -6,16 +6,13 @@ use Rattle.sheet.proofs.HandedLaws.{others-count, inits-fit}
 use Rattle.sheet.proofs.content.room_for.Statement.{statement}
 use Rattle.sheet.proofs.content.room_for.Tie as tie
 
--- src/content.rt:143:18
 sub-others : tie.Need-sub-others
 sub-others c = inits-fit (now (c .before .args .s)) (c .before .args .x) (now (c .before .args .at)) (c .before .pre)
 
--- src/content.rt:138:1
 returns : tie.Need-returns
 unfolding roomFor
 returns c = simp (c .match .keys1, c .before .before .pre .inits)
 
--- src/content.rt:138:1
 returns-2 : tie.Need-returns-2
 unfolding roomFor
 returns-2 c = simp (ne-eqb _ _ (c .match .rest .1), others-count (now (c .before .before .args .s)) (c .before .before .args .x) (now (c .before .before .args .at)) (c .before .before .pre))

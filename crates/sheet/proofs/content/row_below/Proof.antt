@@ -5,7 +5,6 @@ use Rattle.format.specs.Execution.{rowBelow}
 use Rattle.sheet.proofs.content.row_below.Statement.{statement}
 use Rattle.sheet.proofs.content.row_below.Tie as tie
 
--- src/content.rt:199:1
 returns : tie.Need-returns
 unfolding rowBelow _and_ _or_
 returns c = refl

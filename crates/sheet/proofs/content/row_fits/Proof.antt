@@ -5,19 +5,15 @@ use borrow.Author.Needs.{needs}
 use Rattle.sheet.proofs.content.row_fits.Statement.{statement}
 use Rattle.sheet.proofs.content.row_fits.Tie as tie
 
--- src/content.rt:219:18
 reads-at-requires : tie.Need-reads-at-requires
 reads-at-requires c κs = search needs
 
--- src/content.rt:220:12
 writes-at-requires : tie.Need-writes-at-requires
 writes-at-requires c κs = search needs
 
--- src/content.rt:221:14
 row-rises-requires : tie.Need-row-rises-requires
 row-rises-requires c κs = c .before .before .before .before .before .pre .rows-held
 
--- src/content.rt:215:1
 returns : tie.Need-returns
 unfolding rowFits joins _and_ non
 returns c = simp (c .before .before .before .reads-at .ensures, c .before .before .writes-at .ensures, c .row-rises .ensures)

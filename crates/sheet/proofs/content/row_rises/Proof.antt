@@ -10,24 +10,19 @@ use borrow.Author.Needs.{needs}
 use Rattle.sheet.proofs.content.row_rises.Statement.{statement}
 use Rattle.sheet.proofs.content.row_rises.Tie as tie
 
--- src/content.rt:210:9
 returns : tie.Need-returns
 unfolding rowRises _or_
 returns c = simp (rows-count, c .if1 .taken)
 
--- src/content.rt:212:35
 sub-row-no : tie.Need-sub-row-no
 sub-row-no c = search needs
 
--- src/content.rt:212:15
 row-no-requires : tie.Need-row-no-requires
 row-no-requires c κs = c .before .before .pre _ (omega (arith, c .if1 .left))
 
--- src/content.rt:212:5
 row-below-requires : tie.Need-row-below-requires
 row-below-requires c κs = search needs
 
--- src/content.rt:205:1
 returns-2 : tie.Need-returns-2
 unfolding rowRises _or_
 returns-2 c = let h : c .before .before .before .before .args .x .rows - 1 < c .before .before .before .before .args .x .rows = omega (arith, c .before .before .if1 .left) in simp (c .row-below .ensures, c .before .row-no .ensures, rows-count, ne-eqb _ _ (c .before .before .if1 .left), row-at (now (c .before .before .before .before .args .s)) (c .before .before .before .before .args .x .head .edition) (c .before .before .before .before .args .x .«rows_at») (c .before .before .before .before .args .x .rows) (c .before .before .before .before .args .x .rows - 1) h)

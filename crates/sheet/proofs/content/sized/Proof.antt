@@ -7,16 +7,13 @@ use borrow.Author.Needs.{needs}
 use Rattle.sheet.proofs.content.sized.Statement.{statement}
 use Rattle.sheet.proofs.content.sized.Tie as tie
 
--- src/content.rt:49:9
 returns : tie.Need-returns
 unfolding sized _and_ _or_
 returns c = rw (c .if1 .taken)
 
--- src/content.rt:52:33
 rem-result : tie.Need-rem-result
 rem-result c = search needs
 
--- src/content.rt:44:1
 returns-2 : tie.Need-returns-2
 unfolding sized _and_ _or_ non sc divides
 returns-2 c = refl

@@ -12,11 +12,9 @@ use borrow.Author.Needs.{needs}
 use Rattle.sheet.proofs.content.stands_first.Statement.{statement}
 use Rattle.sheet.proofs.content.stands_first.Tie as tie
 
--- src/content.rt:109:30
 meets-requires : tie.Need-meets-requires
 meets-requires c κs = c .before .before .before .pre
 
--- src/content.rt:105:1
 returns : tie.Need-returns
 unfolding standsFirst _and_ non inits
 returns c = let k = events-count (now (c .before .before .before .before .args .s)) (c .before .before .before .before .args .x .head .edition) (c .before .before .before .before .args .x .events) (now (c .before .before .before .before .args .at)) (c .before .before .before .before .pre .room) in

@@ -5,7 +5,6 @@ use Rattle.sheet.specs.Content.{within}
 use Rattle.sheet.proofs.content.within.Statement.{statement}
 use Rattle.sheet.proofs.content.within.Tie as tie
 
--- src/content.rt:19:1
 returns : tie.Need-returns
 unfolding within _and_
 returns c = refl

@@ -9,31 +9,24 @@ use borrow.Author.Needs.{needs}
 use Rattle.sheet.proofs.content.writes_at.Statement.{statement}
 use Rattle.sheet.proofs.content.writes_at.Tie as tie
 
--- src/content.rt:169:9
 returns : tie.Need-returns
 returns c = sym (writesAt-past (now (c .before .before .before .before .args .s)) (c .before .before .before .before .args .x .head .edition) (c .before .before .before .before .args .x .events) (now (c .before .before .before .before .args .at)) (c .before .before .before .before .args .e) (ltb-false _ _ (not-true _ (c .if1 .taken))) (c .before .before .before .before .args .n))
 
--- src/content.rt:171:32
 mul-shape-at : tie.Need-mul-shape-at
 mul-shape-at c = search needs
 
--- src/content.rt:171:32
 shared-slice-read-shape-at : tie.Need-shared-slice-read-shape-at
 shared-slice-read-shape-at c = omega (arith, c .before .before .before .before .before .pre .room, ltb-true (c .before .before .before .before .before .args .e) (c .before .before .before .before .before .args .x .events) (not-false _ (c .before .if1 .left)))
 
--- src/content.rt:171:9
 shape-at-requires : tie.Need-shape-at-requires
 shape-at-requires c κs = c .before .before .before .before .before .pre .held _ (ltb-true _ _ (not-false _ (c .before .if1 .left)))
 
--- src/content.rt:172:5
 covers-requires : tie.Need-covers-requires
 covers-requires c κs = search needs
 
--- src/content.rt:172:27
 writes-requires : tie.Need-writes-requires
 writes-requires c κs = search needs
 
--- src/content.rt:163:1
 returns-2 : tie.Need-returns-2
 unfolding _and_
 returns-2 c = rw (c .writes .ensures, c .before .covers .ensures, c .before .before .shape-at .ensures) (sym (writesAt-at (now (c .before .before .before .before .before .before .before .before .args .s)) (c .before .before .before .before .before .before .before .before .args .x .head .edition) (c .before .before .before .before .before .before .before .before .args .x .events) (now (c .before .before .before .before .before .before .before .before .args .at)) (c .before .before .before .before .before .before .before .before .args .e) (ltb-true _ _ (not-false _ (c .before .before .before .before .if1 .left))) (c .before .before .before .before .before .before .before .before .pre .room) (c .before .before .before .before .before .before .before .before .args .n)))

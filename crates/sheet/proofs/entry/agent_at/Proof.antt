@@ -3,15 +3,12 @@ use borrow.Author.Needs.{needs}
 use Rattle.sheet.proofs.entry.agent_at.Statement.{statement}
 use Rattle.sheet.proofs.entry.agent_at.Tie as tie
 
--- src/entry.rt:26:17
 value-at-requires : tie.Need-value-at-requires
 value-at-requires c κs = search needs
 
--- src/entry.rt:26:5
 byte-requires : tie.Need-byte-requires
 byte-requires c κs = search needs
 
--- src/entry.rt:23:1
 returns : tie.Need-returns
 returns c = simp (c .byte .ensures, c .before .value-at .ensures)
 

@@ -3,27 +3,21 @@ use borrow.Author.Needs.{needs}
 use Rattle.sheet.proofs.entry.pair_no.Statement.{statement}
 use Rattle.sheet.proofs.entry.pair_no.Tie as tie
 
--- src/entry.rt:48:40
 cast-value-at : tie.Need-cast-value-at
 cast-value-at c = search needs
 
--- src/entry.rt:48:60
 mul-value-at : tie.Need-mul-value-at
 mul-value-at c = search needs
 
--- src/entry.rt:48:40
 add-value-at : tie.Need-add-value-at
 add-value-at c = search needs
 
--- src/entry.rt:48:21
 value-at-requires : tie.Need-value-at-requires
 value-at-requires c κs = search needs
 
--- src/entry.rt:48:5
 pair-of-requires : tie.Need-pair-of-requires
 pair-of-requires c κs = search needs
 
--- src/entry.rt:45:1
 returns : tie.Need-returns
 returns c = simp (c .pair-of .ensures, c .before .value-at .ensures)
 

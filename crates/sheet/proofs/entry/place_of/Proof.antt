@@ -6,19 +6,15 @@ use borrow.Author.Needs.{needs}
 use Rattle.sheet.proofs.entry.place_of.Statement.{statement}
 use Rattle.sheet.proofs.entry.place_of.Tie as tie
 
--- src/entry.rt:19:23
 mul-result : tie.Need-mul-result
 mul-result c = search needs
 
--- src/entry.rt:19:23
 shared-slice-read-result : tie.Need-shared-slice-read-result
 shared-slice-read-result c = search needs
 
--- src/entry.rt:15:1
 returns : tie.Need-returns
 returns c = search needs
 
--- src/entry.rt:15:1
 returns-2 : tie.Need-returns-2
 returns-2 c = sym (List·getD-eq-default (now (c .before .args .at)) 0 {n = c .before .args .e} (search needs))
 

@@ -5,41 +5,32 @@ use borrow.Author.Needs.{needs}
 use Rattle.sheet.proofs.entry.row_no.Statement.{statement}
 use Rattle.sheet.proofs.entry.row_no.Tie as tie
 
--- src/entry.rt:40:19
 row-bytes-requires : tie.Need-row-bytes-requires
 row-bytes-requires c κs = search needs
 
--- src/entry.rt:40:19
 cast-gap : tie.Need-cast-gap
 cast-gap c = search needs
 
--- src/entry.rt:40:15
 add-gap : tie.Need-add-gap
 add-gap c = search needs
 
--- src/entry.rt:41:39
 cast-value-at : tie.Need-cast-value-at
 cast-value-at c = search needs
 
--- src/entry.rt:41:58
 mul-value-at : tie.Need-mul-value-at
 unfolding rowBytes
 mul-value-at c = rw (c .before .row-bytes .ensures) (omega arith)
 
--- src/entry.rt:41:39
 add-value-at : tie.Need-add-value-at
 unfolding rowBytes
 add-value-at c = rw (c .before .row-bytes .ensures) (omega arith)
 
--- src/entry.rt:41:20
 value-at-requires : tie.Need-value-at-requires
 value-at-requires c κs = search needs
 
--- src/entry.rt:41:5
 row-of-requires : tie.Need-row-of-requires
 row-of-requires c κs = search needs
 
--- src/entry.rt:37:1
 returns : tie.Need-returns
 returns c = simp (c .row-of .ensures, c .before .value-at .ensures, c .before .before .before .row-bytes .ensures)
 

@@ -3,15 +3,12 @@ use borrow.Author.Needs.{needs}
 use Rattle.sheet.proofs.entry.shape_at.Statement.{statement}
 use Rattle.sheet.proofs.entry.shape_at.Tie as tie
 
--- src/entry.rt:33:22
 value-at-requires : tie.Need-value-at-requires
 value-at-requires c κs = search needs
 
--- src/entry.rt:33:5
 shape-of-requires : tie.Need-shape-of-requires
 shape-of-requires c κs = search needs
 
--- src/entry.rt:30:1
 returns : tie.Need-returns
 returns c = simp (c .shape-of .ensures, c .before .value-at .ensures)
 

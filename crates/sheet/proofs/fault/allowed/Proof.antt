@@ -5,39 +5,31 @@ use borrow.Author.Needs.{needs}
 use Rattle.sheet.proofs.fault.allowed.Statement.{statement}
 use Rattle.sheet.proofs.fault.allowed.Tie as tie
 
--- src/fault.rt:25:14
 within-requires : tie.Need-within-requires
 within-requires c κs = search needs
 
--- src/fault.rt:26:14
 within-requires-2 : tie.Need-within-requires-2
 within-requires-2 c κs = search needs
 
--- src/fault.rt:27:14
 within-requires-3 : tie.Need-within-requires-3
 within-requires-3 c κs = search needs
 
--- src/fault.rt:20:1
 returns : tie.Need-returns
 unfolding allowed
 returns c = simp (c .match .keys1)
 
--- src/fault.rt:20:1
 returns-2 : tie.Need-returns-2
 unfolding allowed
 returns-2 c = simp (c .before .match .keys2, c .within .ensures)
 
--- src/fault.rt:20:1
 returns-3 : tie.Need-returns-3
 unfolding allowed
 returns-3 c = simp (c .before .match .keys3, c .within2 .ensures)
 
--- src/fault.rt:20:1
 returns-4 : tie.Need-returns-4
 unfolding allowed
 returns-4 c = simp (c .before .match .keys4, c .within3 .ensures)
 
--- src/fault.rt:20:1
 returns-5 : tie.Need-returns-5
 unfolding allowed
 returns-5 c = simp (ne-eqb _ _ (c .match .rest .0 .0 .0 .1), ne-eqb _ _ (c .match .rest .0 .0 .1), ne-eqb _ _ (c .match .rest .0 .1), ne-eqb _ _ (c .match .rest .1))

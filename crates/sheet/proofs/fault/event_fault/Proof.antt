@@ -5,63 +5,49 @@ use borrow.Author.Needs.{needs}
 use Rattle.sheet.proofs.fault.event_fault.Statement.{statement}
 use Rattle.sheet.proofs.fault.event_fault.Tie as tie
 
--- src/fault.rt:50:17
 event-bytes-requires : tie.Need-event-bytes-requires
 event-bytes-requires c κs = search needs
 
--- src/fault.rt:50:17
 cast-least : tie.Need-cast-least
 cast-least c = search needs
 
--- src/fault.rt:53:9
 returns : tie.Need-returns
 unfolding eventFault non
 returns c = simp (simp (c .before .event-bytes .ensures) at (c .if1 .taken))
 
--- src/fault.rt:55:9
 byte-requires : tie.Need-byte-requires
 byte-requires c κs = search needs
 
--- src/fault.rt:56:9
 shape-of-requires : tie.Need-shape-of-requires
 shape-of-requires c κs = search needs
 
--- src/fault.rt:57:9
 event-fits-requires : tie.Need-event-fits-requires
 event-fits-requires c κs = c .before .before .before .before .before .before .before .pre
 
--- src/fault.rt:59:9
 returns-2 : tie.Need-returns-2
 unfolding eventFault non
 returns-2 c = simp (simp (c .before .before .before .before .before .event-bytes .ensures) at (c .before .before .before .before .if1 .left), simp (c .before .event-fits .ensures, c .before .before .before .byte .ensures, c .before .before .shape-of .ensures) at (c .if2 .taken))
 
--- src/fault.rt:61:36
 data-bytes-requires : tie.Need-data-bytes-requires
 data-bytes-requires c κs = search needs
 
--- src/fault.rt:61:36
 cast-exact : tie.Need-cast-exact
 cast-exact c = search needs
 
--- src/fault.rt:61:28
 add-exact : tie.Need-add-exact
 add-exact c = search needs
 
--- src/fault.rt:63:9
 returns-3 : tie.Need-returns-3
 unfolding eventFault non
 returns-3 c = simp (simp (c .before .before .before .before .before .before .before .event-bytes .ensures) at (c .before .before .before .before .before .before .if1 .left), simp (c .before .before .before .event-fits .ensures, c .before .before .before .before .before .byte .ensures, c .before .before .before .before .shape-of .ensures) at (c .before .before .if2 .left), simp (c .before .before .before .before .before .before .before .event-bytes .ensures, c .before .data-bytes .ensures, c .before .before .before .before .shape-of .ensures) at (c .if3 .taken))
 
--- src/fault.rt:65:9
 room-for-requires : tie.Need-room-for-requires
 room-for-requires c κs = c .before .before .before .before .before .before .before .before .before .before .before .pre
 
--- src/fault.rt:67:9
 returns-4 : tie.Need-returns-4
 unfolding eventFault non
 returns-4 c = simp (simp (c .before .before .before .before .before .before .before .before .before .event-bytes .ensures) at (c .before .before .before .before .before .before .before .before .if1 .left), simp (c .before .before .before .before .before .event-fits .ensures, c .before .before .before .before .before .before .before .byte .ensures, c .before .before .before .before .before .before .shape-of .ensures) at (c .before .before .before .before .if2 .left), simp (c .before .before .before .before .before .before .before .before .before .event-bytes .ensures, c .before .before .before .data-bytes .ensures, c .before .before .before .before .before .before .shape-of .ensures) at (c .before .before .if3 .left), simp (c .before .room-for .ensures, c .before .before .before .before .before .before .before .byte .ensures) at (c .if4 .taken))
 
--- src/fault.rt:46:1
 returns-5 : tie.Need-returns-5
 unfolding eventFault non
 returns-5 c = simp (simp (c .before .before .before .before .before .before .before .before .before .event-bytes .ensures) at (c .before .before .before .before .before .before .before .before .if1 .left), simp (c .before .before .before .before .before .event-fits .ensures, c .before .before .before .before .before .before .before .byte .ensures, c .before .before .before .before .before .before .shape-of .ensures) at (c .before .before .before .before .if2 .left), simp (c .before .before .before .before .before .before .before .before .before .event-bytes .ensures, c .before .before .before .data-bytes .ensures, c .before .before .before .before .before .before .shape-of .ensures) at (c .before .before .if3 .left), simp (c .before .room-for .ensures, c .before .before .before .before .before .before .before .byte .ensures) at (c .if4 .left))

@@ -5,58 +5,45 @@ use borrow.Author.Needs.{needs}
 use Rattle.sheet.proofs.fault.fault_at.Statement.{statement}
 use Rattle.sheet.proofs.fault.fault_at.Tie as tie
 
--- src/fault.rt:125:26
 add-stub : tie.Need-add-stub
 add-stub c = search needs
 
--- src/fault.rt:127:9
 returns : tie.Need-returns
 unfolding faultAt non
 returns c = simp (c .if1 .taken)
 
--- src/fault.rt:129:9
 byte-requires : tie.Need-byte-requires
 byte-requires c κs = search needs
 
--- src/fault.rt:130:9
 allowed-requires : tie.Need-allowed-requires
 allowed-requires c κs = search needs
 
--- src/fault.rt:132:9
 returns-2 : tie.Need-returns-2
 unfolding faultAt non
 returns-2 c = simp (c .before .before .before .if1 .left, simp (c .before .allowed .ensures, c .before .before .byte .ensures) at (c .if2 .taken))
 
--- src/fault.rt:134:16
 add-next : tie.Need-add-next
 add-next c = search needs
 
--- src/fault.rt:134:28
 length-at-requires : tie.Need-length-at-requires
 length-at-requires c κs = search needs
 
--- src/fault.rt:134:28
 cast-next : tie.Need-cast-next
 cast-next c = search needs
 
--- src/fault.rt:134:16
 add-next-2 : tie.Need-add-next-2
 add-next-2 c = search needs
 
--- src/fault.rt:137:9
 returns-3 : tie.Need-returns-3
 unfolding faultAt non
 returns-3 c = simp (c .before .before .before .before .before .if1 .left, simp (c .before .before .before .allowed .ensures, c .before .before .before .before .byte .ensures) at (c .before .before .if2 .left), simp (c .before .length-at .ensures) at (c .if3 .taken))
 
--- src/fault.rt:139:32
 value-at-requires : tie.Need-value-at-requires
 value-at-requires c κs = search needs
 
--- src/fault.rt:139:5
 value-fault-requires : tie.Need-value-fault-requires
 value-fault-requires c κs = c .before .before .before .before .before .before .before .before .before .pre
 
--- src/fault.rt:120:1
 returns-4 : tie.Need-returns-4
 unfolding faultAt non
 returns-4 c = simp (c .before .before .before .before .before .before .before .if1 .left, simp (c .before .before .before .before .before .allowed .ensures, c .before .before .before .before .before .before .byte .ensures) at (c .before .before .before .before .if2 .left), simp (c .before .before .before .length-at .ensures) at (c .before .before .if3 .left), c .value-fault .ensures, c .before .value-at .ensures, c .before .before .before .before .before .before .byte .ensures)

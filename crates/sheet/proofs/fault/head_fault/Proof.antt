@@ -5,25 +5,20 @@ use borrow.Author.Needs.{needs}
 use Rattle.sheet.proofs.fault.head_fault.Statement.{statement}
 use Rattle.sheet.proofs.fault.head_fault.Tie as tie
 
--- src/fault.rt:37:9
 returns : tie.Need-returns
 unfolding headFault non
 returns c = simp (c .if1 .taken)
 
--- src/fault.rt:39:35
 head-of-requires : tie.Need-head-of-requires
 head-of-requires c κs = search needs
 
--- src/fault.rt:39:9
 head-fits-requires : tie.Need-head-fits-requires
 head-fits-requires c κs = search needs
 
--- src/fault.rt:41:9
 returns-2 : tie.Need-returns-2
 unfolding headFault non
 returns-2 c = simp (c .before .before .before .if1 .left, simp (c .before .head-fits .ensures, c .before .before .head-of .ensures) at (c .if2 .taken))
 
--- src/fault.rt:32:1
 returns-3 : tie.Need-returns-3
 unfolding headFault non
 returns-3 c = simp (c .before .before .before .if1 .left, simp (c .before .head-fits .ensures, c .before .before .head-of .ensures) at (c .if2 .left))

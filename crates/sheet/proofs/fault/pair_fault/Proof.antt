@@ -6,30 +6,24 @@ use borrow.Author.Needs.{needs}
 use Rattle.sheet.proofs.fault.pair_fault.Statement.{statement}
 use Rattle.sheet.proofs.fault.pair_fault.Tie as tie
 
--- src/fault.rt:93:9
 returns : tie.Need-returns
 unfolding pairFault non
 returns c = simp (c .if1 .taken)
 
--- src/fault.rt:95:45
 pair-of-requires : tie.Need-pair-of-requires
 pair-of-requires c κs = search needs
 
--- src/fault.rt:95:9
 pair-fits-requires : tie.Need-pair-fits-requires
 pair-fits-requires c κs = search needs
 
--- src/fault.rt:97:9
 returns-2 : tie.Need-returns-2
 unfolding pairFault non
 returns-2 c = simp (c .before .before .before .if1 .left, simp (c .before .pair-fits .ensures, c .before .before .pair-of .ensures) at (c .if2 .taken))
 
--- src/fault.rt:101:9
 returns-3 : tie.Need-returns-3
 unfolding pairFault non
 returns-3 c = simp (c .before .before .before .before .before .if1 .left, simp (c .before .before .before .pair-fits .ensures, c .before .before .before .before .pair-of .ensures) at (c .before .before .if2 .left), pairs-count, c .if3 .taken)
 
--- src/fault.rt:87:1
 returns-4 : tie.Need-returns-4
 unfolding pairFault non
 returns-4 c = simp (c .before .before .before .before .before .if1 .left, simp (c .before .before .before .pair-fits .ensures, c .before .before .before .before .pair-of .ensures) at (c .before .before .if2 .left), pairs-count, c .if3 .left)

@@ -4,7 +4,6 @@ use Rattle.sheet.specs.Parse.{placeOf}
 use Rattle.sheet.proofs.fault.place_of.Statement.{statement}
 use Rattle.sheet.proofs.fault.place_of.Tie as tie
 
--- src/fault.rt:14:1
 returns : tie.Need-returns
 unfolding placeOf
 returns c = refl

@@ -5,33 +5,26 @@ use borrow.Author.Needs.{needs}
 use Rattle.sheet.proofs.fault.row_fault.Statement.{statement}
 use Rattle.sheet.proofs.fault.row_fault.Tie as tie
 
--- src/fault.rt:76:27
 row-bytes-requires : tie.Need-row-bytes-requires
 row-bytes-requires c κs = search needs
 
--- src/fault.rt:76:27
 cast-long : tie.Need-cast-long
 cast-long c = search needs
 
--- src/fault.rt:78:9
 returns : tie.Need-returns
 unfolding rowFault non
 returns c = simp (simp (c .before .row-bytes .ensures) at (c .if1 .taken))
 
--- src/fault.rt:80:44
 row-of-requires : tie.Need-row-of-requires
 row-of-requires c κs = search needs
 
--- src/fault.rt:80:9
 row-fits-requires : tie.Need-row-fits-requires
 row-fits-requires c κs = search needs
 
--- src/fault.rt:82:9
 returns-2 : tie.Need-returns-2
 unfolding rowFault non
 returns-2 c = simp (simp (c .before .before .before .before .row-bytes .ensures) at (c .before .before .before .if1 .left), simp (c .before .row-fits .ensures, c .before .before .row-of .ensures) at (c .if2 .taken))
 
--- src/fault.rt:72:1
 returns-3 : tie.Need-returns-3
 unfolding rowFault non
 returns-3 c = simp (simp (c .before .before .before .before .row-bytes .ensures) at (c .before .before .before .if1 .left), simp (c .before .row-fits .ensures, c .before .before .row-of .ensures) at (c .if2 .left))

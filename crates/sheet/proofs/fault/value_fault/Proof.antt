@@ -5,43 +5,34 @@ use borrow.Author.Needs.{needs}
 use Rattle.sheet.proofs.fault.value_fault.Statement.{statement}
 use Rattle.sheet.proofs.fault.value_fault.Tie as tie
 
--- src/fault.rt:111:14
 head-fault-requires : tie.Need-head-fault-requires
 head-fault-requires c κs = search needs
 
--- src/fault.rt:112:14
 event-fault-requires : tie.Need-event-fault-requires
 event-fault-requires c κs = c .before .before .before .before .pre
 
--- src/fault.rt:113:14
 row-fault-requires : tie.Need-row-fault-requires
 row-fault-requires c κs = c .before .before .before .before .pre
 
--- src/fault.rt:114:14
 pair-fault-requires : tie.Need-pair-fault-requires
 pair-fault-requires c κs = c .before .before .before .before .pre
 
--- src/fault.rt:106:1
 returns : tie.Need-returns
 unfolding valueFault
 returns c = simp (c .before .match .keys1, c .head-fault .ensures)
 
--- src/fault.rt:106:1
 returns-2 : tie.Need-returns-2
 unfolding valueFault
 returns-2 c = simp (c .before .match .keys2, c .event-fault .ensures)
 
--- src/fault.rt:106:1
 returns-3 : tie.Need-returns-3
 unfolding valueFault
 returns-3 c = simp (c .before .match .keys3, c .row-fault .ensures)
 
--- src/fault.rt:106:1
 returns-4 : tie.Need-returns-4
 unfolding valueFault
 returns-4 c = simp (c .before .match .keys4, c .pair-fault .ensures)
 
--- src/fault.rt:106:1
 returns-5 : tie.Need-returns-5
 unfolding valueFault
 returns-5 c = simp (ne-eqb _ _ (c .match .rest .0 .0 .0 .1), ne-eqb _ _ (c .match .rest .0 .0 .1), ne-eqb _ _ (c .match .rest .0 .1), ne-eqb _ _ (c .match .rest .1))

@@ -7,31 +7,24 @@ use borrow.Author.Needs.{needs}
 use Rattle.sheet.proofs.held.shape_at.Statement.{statement}
 use Rattle.sheet.proofs.held.shape_at.Tie as tie
 
--- src/held.rt:18:13
 add-p : tie.Need-add-p
 add-p c = search needs
 
--- src/held.rt:19:28
 add-shape-of : tie.Need-add-shape-of
 add-shape-of c = search needs
 
--- src/held.rt:19:22
 sub-shape-of : tie.Need-sub-shape-of
 sub-shape-of c = search needs
 
--- src/held.rt:19:22
 part-shape-of-start : tie.Need-part-shape-of-start
 part-shape-of-start c = search needs
 
--- src/held.rt:19:22
 part-shape-of-end : tie.Need-part-shape-of-end
 part-shape-of-end c = held-inside (now (c .before .args .s)) (c .before .args .at) 5 (c .before .pre) (omega arith)
 
--- src/held.rt:19:5
 shape-of-requires : tie.Need-shape-of-requires
 shape-of-requires c κs = search needs
 
--- src/held.rt:14:1
 returns : tie.Need-returns
 returns c = c .shape-of .ensures ∙ held-shape (now (c .before .before .before .args .s)) (c .before .before .before .args .at) (c .before .before .before .pre)
 

@@ -9,75 +9,57 @@ use borrow.Author.Needs.{needs}
 use Rattle.sheet.proofs.reader.after.Statement.{statement}
 use Rattle.sheet.proofs.reader.after.Tie as tie
 
--- src/reader.rt:113:9
 byte-requires : tie.Need-byte-requires
 byte-requires c κs = search needs
 
--- src/reader.rt:114:9
 next-at-requires : tie.Need-next-at-requires
 next-at-requires c κs = ready-next (now (c .before .before .before .args .s)) (c .before .before .before .args .p) (c .before .before .before .args .last) (c .before .before .before .args .x) (now (c .before .before .before .args .at)) (c .before .before .before .pre)
 
--- src/reader.rt:115:9
 value-at-requires : tie.Need-value-at-requires
 value-at-requires c κs = search needs
 
--- src/reader.rt:117:24
 head-of-requires : tie.Need-head-of-requires
 head-of-requires c κs = search needs
 
--- src/reader.rt:117:14
 with-head-requires : tie.Need-with-head-requires
 with-head-requires c κs = search needs
 
--- src/reader.rt:119:21
 cast-i : tie.Need-cast-i
 cast-i c = search needs
 
--- src/reader.rt:120:13
 mul-at : tie.Need-mul-at
 mul-at c = search needs
 
--- src/reader.rt:120:13
 slice-write-at : tie.Need-slice-write-at
 slice-write-at c = search needs
 
--- src/reader.rt:121:27
 byte-requires-2 : tie.Need-byte-requires-2
 byte-requires-2 c κs = search needs
 
--- src/reader.rt:121:13
 with-event-requires : tie.Need-with-event-requires
 with-event-requires c κs = event-few (now (c .before .before .before .before .before .before .before .before .args .s)) (c .before .before .before .before .before .before .before .before .args .p) (c .before .before .before .before .before .before .before .before .args .last) (c .before .before .before .before .before .before .before .before .args .x) (now (c .before .before .before .before .before .before .before .before .args .at)) (c .before .before .before .before .before .before .before .before .pre) (sym (c .before .before .before .before .before .byte .ensures) ∙ c .before .before .match .keys2)
 
--- src/reader.rt:123:14
 with-row-requires : tie.Need-with-row-requires
 with-row-requires c κs = row-few (now (c .before .before .before .before .before .before .args .s)) (c .before .before .before .before .before .before .args .p) (c .before .before .before .before .before .before .args .last) (c .before .before .before .before .before .before .args .x) (now (c .before .before .before .before .before .before .args .at)) (c .before .before .before .before .before .before .pre) (sym (c .before .before .before .byte .ensures) ∙ c .match .keys3)
 
--- src/reader.rt:124:14
 with-pair-requires : tie.Need-with-pair-requires
 with-pair-requires c κs = pair-few (now (c .before .before .before .before .before .before .args .s)) (c .before .before .before .before .before .before .args .p) (c .before .before .before .before .before .before .args .last) (c .before .before .before .before .before .before .args .x) (now (c .before .before .before .before .before .before .args .at)) (c .before .before .before .before .before .before .pre)
 
--- src/reader.rt:109:1
 returns : tie.Need-returns
 returns c = simp (c .with-head .ensures, c .before .head-of .ensures, c .before .before .before .value-at .ensures, c .before .before .before .before .next-at .ensures) (head-taken (now (c .before .before .before .before .before .before .before .before .args .s)) (c .before .before .before .before .before .before .before .before .args .p) (c .before .before .before .before .before .before .before .before .args .last) (c .before .before .before .before .before .before .before .before .args .x) (now (c .before .before .before .before .before .before .before .before .args .at)) (c .before .before .before .before .before .before .before .before .pre) (sym (c .before .before .before .before .before .byte .ensures) ∙ c .before .before .match .keys1))
 
--- src/reader.rt:109:1
 same-length : tie.Need-same-length
 same-length c = search needs
 
--- src/reader.rt:109:1
 returns-2 : tie.Need-returns-2
 returns-2 c = simp (c .with-event .ensures, c .before .byte2 .ensures, c .before .before .before .before .value-at .ensures, c .before .before .before .before .before .next-at .ensures) (event-taken (now (c .before .before .before .before .before .before .before .before .before .args .s)) (c .before .before .before .before .before .before .before .before .before .args .p) (c .before .before .before .before .before .before .before .before .before .args .last) (c .before .before .before .before .before .before .before .before .before .args .x) (now (c .before .before .before .before .before .before .before .before .before .args .at)) (c .before .before .before .before .before .before .before .before .before .pre) (sym (c .before .before .before .before .before .before .byte .ensures) ∙ c .before .before .before .match .keys2))
 
--- src/reader.rt:109:1
 returns-3 : tie.Need-returns-3
 returns-3 c = simp (c .with-row .ensures, c .before .before .before .next-at .ensures) (row-taken (now (c .before .before .before .before .before .before .before .args .s)) (c .before .before .before .before .before .before .before .args .p) (c .before .before .before .before .before .before .before .args .last) (c .before .before .before .before .before .before .before .args .x) (now (c .before .before .before .before .before .before .before .args .at)) (c .before .before .before .before .before .before .before .pre) (sym (c .before .before .before .before .byte .ensures) ∙ c .before .match .keys3))
 
--- src/reader.rt:109:1
 returns-4 : tie.Need-returns-4
 returns-4 c = simp (c .with-pair .ensures) (pair-taken (now (c .before .before .before .before .before .before .before .args .s)) (c .before .before .before .before .before .before .before .args .p) (c .before .before .before .before .before .before .before .args .last) (c .before .before .before .before .before .before .before .args .x) (now (c .before .before .before .before .before .before .before .args .at)) (c .before .before .before .before .before .before .before .pre) (sym (c .before .before .before .before .byte .ensures) ∙ c .before .match .keys4))
 
--- src/reader.rt:109:1
 returns-5 : tie.Need-returns-5
 returns-5 c = absurd (known (now (c .before .before .before .before .before .before .args .s)) (c .before .before .before .before .before .before .args .p) (view (now (c .before .before .before .before .before .before .args .s)) (c .before .before .before .before .before .before .args .last) (c .before .before .before .before .before .before .args .x) (now (c .before .before .before .before .before .before .args .at))) (c .before .before .before .before .before .before .pre .clean) (λ e. c .match .rest .0 .0 .0 .1 (c .before .before .before .byte .ensures ∙ e)) (λ e. c .match .rest .0 .0 .1 (c .before .before .before .byte .ensures ∙ e)) (λ e. c .match .rest .0 .1 (c .before .before .before .byte .ensures ∙ e)) (λ e. c .match .rest .1 (c .before .before .before .byte .ensures ∙ e)))
 

@@ -20,35 +20,27 @@ Inv-loop s last x at n hint₀ i₀ hint i = (i ≤ x .events) × (find (lacksNo
 abbrev μ-loop : tie.MeasureT-loop
 μ-loop s last x at n hint₀ i₀ hint i = x .events - i
 
--- src/reader.rt:265:5
 loop-holds : tie.Need-loop-holds Inv-loop μ-loop
 loop-holds c = (omega arith, refl)
 
--- src/reader.rt:266:20
 cast-p : tie.Need-cast-p Inv-loop μ-loop
 cast-p c = search needs
 
--- src/reader.rt:266:17
 mul-p : tie.Need-mul-p Inv-loop μ-loop
 mul-p c = search needs
 
--- src/reader.rt:266:17
 shared-slice-read-p : tie.Need-shared-slice-read-p Inv-loop μ-loop
 shared-slice-read-p c = omega (arith, c .before .before .before .before .before .pre .room)
 
--- src/reader.rt:267:13
 shape-at-requires : tie.Need-shape-at-requires Inv-loop μ-loop
 shape-at-requires c κs = c .before .before .before .before .before .pre .held _ (c .before .loop-test .taken)
 
--- src/reader.rt:268:13
 lacks-requires : tie.Need-lacks-requires Inv-loop μ-loop
 lacks-requires c κs = c .before .before .before .before .before .before .pre .rows-held
 
--- src/reader.rt:270:41
 place-of-requires : tie.Need-place-of-requires Inv-loop μ-loop
 place-of-requires c κs = search needs
 
--- src/reader.rt:270:13
 returns : tie.Need-returns Inv-loop μ-loop
 unfolding completed
 returns c = rw (c .place-of .ensures) (sym (ap (completed (view (now (c .before .before .before .before .before .before .before .before .before .args .s)) (c .before .before .before .before .before .before .before .before .before .args .last) (c .before .before .before .before .before .before .before .before .before .args .x) (now (c .before .before .before .before .before .before .before .before .before .args .at))))
@@ -56,19 +48,15 @@ returns c = rw (c .place-of .ensures) (sym (ap (completed (view (now (c .before 
     (lacks-at (now (c .before .before .before .before .before .before .before .before .before .args .s)) (c .before .before .before .before .before .before .before .before .before .args .x) (now (c .before .before .before .before .before .before .before .before .before .args .at)) (c .before .before .before .before .before .before .before .before .before .pre .room) (c .before .before .before .before .before .before .loop .i) (c .before .before .before .before .before .loop-test .taken) ∙ sym (rw (c .before .before .before .shape-at .ensures) at (c .before .before .lacks .ensures)) ∙ c .before .if1 .taken))
     ∙ ap (λ q. refused 11 (placeOf 11 q)) (getD-take (c .before .before .before .before .before .before .before .before .before .args .x .events) (now (c .before .before .before .before .before .before .before .before .before .args .at)) (c .before .before .before .before .before .before .loop .i) 0 (c .before .before .before .before .before .loop-test .taken))))
 
--- src/reader.rt:272:9
 past-requires : tie.Need-past-requires Inv-loop μ-loop
 past-requires c κs = search needs
 
--- src/reader.rt:273:9
 add-i : tie.Need-add-i Inv-loop μ-loop
 add-i c = omega arith
 
--- src/reader.rt:265:5
 loop-less : tie.Need-loop-less Inv-loop μ-loop
 loop-less c = omega arith
 
--- src/reader.rt:265:5
 loop-again : tie.Need-loop-again Inv-loop μ-loop
 loop-again c = (
   omega arith,
@@ -76,7 +64,6 @@ loop-again c = (
       (lacks-at (now (c .before .before .before .before .before .before .before .before .before .args .s)) (c .before .before .before .before .before .before .before .before .before .args .x) (now (c .before .before .before .before .before .before .before .before .before .args .at)) (c .before .before .before .before .before .before .before .before .before .pre .room) (c .before .before .before .before .before .before .loop .i) (c .before .before .before .before .before .loop-test .taken) ∙ sym (rw (c .before .before .before .shape-at .ensures) at (c .before .before .lacks .ensures)) ∙ c .before .if1 .left),
 )
 
--- src/reader.rt:258:1
 returns-2 : tie.Need-returns-2 Inv-loop μ-loop
 unfolding completed
 returns-2 c = sym (ap (completed (view (now (c .before .before .before .before .args .s)) (c .before .before .before .before .args .last) (c .before .before .before .before .args .x) (now (c .before .before .before .before .args .at)))) (lacking-none (now (c .before .before .before .before .args .s)) (c .before .before .before .before .args .x) (now (c .before .before .before .before .args .at)) (c .before .before .before .before .pre .room) (c .before .loop .i) (c .before .loop .inv .1) (c .loop-test .left)))

@@ -16,63 +16,48 @@ Inv-loop s at₀ x₀ last₀ p₀ at x last p = Turn s p last x at
 abbrev μ-loop : tie.MeasureT-loop
 μ-loop s at₀ x₀ last₀ p₀ at x last p = length s - p
 
--- src/reader.rt:151:9
 blank-requires : tie.Need-blank-requires Inv-loop μ-loop
 blank-requires c κs = search needs
 
--- src/reader.rt:154:5
 loop-holds : tie.Need-loop-holds Inv-loop μ-loop
 loop-holds c = rw (c .blank .ensures, c .before .before .before .pre .1) (turn-start (now (c .before .before .before .args .s)) (c .before .before .before .pre .0))
 
--- src/reader.rt:154:12
 cast-loop : tie.Need-cast-loop Inv-loop μ-loop
 cast-loop c = omega arith
 
--- src/reader.rt:155:13
 fault-at-requires : tie.Need-fault-at-requires Inv-loop μ-loop
 fault-at-requires c κs = counted-of _ _ _ _ _ (c .before .before .loop .inv .between)
 
--- src/reader.rt:157:37
 place-of-requires : tie.Need-place-of-requires Inv-loop μ-loop
 place-of-requires c κs = search needs
 
--- src/reader.rt:157:13
 same-length : tie.Need-same-length Inv-loop μ-loop
 same-length c = c .before .before .before .before .before .loop .inv .between .size ∙ sym (ap length (c .before .before .before .before .before .before .before .before .before .pre .1))
 
--- src/reader.rt:157:13
 returns : tie.Need-returns Inv-loop μ-loop
 returns c = rw (c .place-of .ensures) (turn-fault (now (c .before .before .before .before .before .before .before .before .before .args .s)) (c .before .before .before .before .before .loop .p) (c .before .before .before .before .before .loop .last) (c .before .before .before .before .before .loop .x) (c .before .before .before .before .before .loop .at) (c .before .before .before .before .before .loop .inv) _ (c .before .before .before .before .loop-test .taken) (sym (c .before .before .fault-at .ensures)) (c .before .if1 .taken))
 
--- src/reader.rt:159:13
 next-at-requires : tie.Need-next-at-requires Inv-loop μ-loop
 next-at-requires c κs = let l = c .before .before .before .before .loop in ready-next (now (c .before .before .before .before .before .before .before .before .args .s)) (l .p) (l .last) (l .x) (l .at) (turn-ready (now (c .before .before .before .before .before .before .before .before .args .s)) (l .p) (l .last) (l .x) (l .at) (l .inv) (sym (c .before .fault-at .ensures) ∙ c .if1 .left))
 
--- src/reader.rt:160:9
 after-requires : tie.Need-after-requires Inv-loop μ-loop
 after-requires c κs = search needs
 
--- src/reader.rt:161:31
 cast-byte : tie.Need-cast-byte Inv-loop μ-loop
 cast-byte c = search needs
 
--- src/reader.rt:161:9
 byte-requires : tie.Need-byte-requires Inv-loop μ-loop
 byte-requires c κs = search needs
 
--- src/reader.rt:154:5
 loop-less : tie.Need-loop-less Inv-loop μ-loop
 loop-less c = search needs
 
--- src/reader.rt:154:5
 loop-again : tie.Need-loop-again Inv-loop μ-loop
 loop-again c = rw (c .byte .ensures, c .before .before .before .before .before .next-at .ensures) (turn-next (now (c .before .before .before .before .before .before .before .before .before .before .before .before .before .before .args .s)) (c .before .before .before .before .before .before .before .before .before .before .loop .p) (c .before .before .before .before .before .before .before .before .before .before .loop .last) (c .before .before .before .before .before .before .before .before .before .before .loop .x) (c .before .before .before .before .before .before .before .before .before .before .loop .at) (c .before .before .before .before .before .before .before .before .before .before .loop .inv) (c .before .before .before .after .result) _ (c .before .before .before .before .before .before .before .before .before .loop-test .taken) (sym (c .before .before .before .before .before .before .before .fault-at .ensures) ∙ c .before .before .before .before .before .before .if1 .left) (c .before .before .before .after .ensures))
 
--- src/reader.rt:147:1
 same-length-2 : tie.Need-same-length-2 Inv-loop μ-loop
 same-length-2 c = c .before .loop .inv .between .size ∙ sym (ap length (c .before .before .before .before .before .pre .1))
 
--- src/reader.rt:147:1
 returns-2 : tie.Need-returns-2 Inv-loop μ-loop
 returns-2 c = turn-through (now (c .before .before .before .before .before .args .s)) (c .before .loop .p) (c .before .loop .last) (c .before .loop .x) (c .before .loop .at) (c .before .loop .inv) (c .loop-test .left)
 

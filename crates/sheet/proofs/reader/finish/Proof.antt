@@ -10,29 +10,23 @@ use borrow.Author.Needs.{needs}
 use Rattle.sheet.proofs.reader.finish.Statement.{statement}
 use Rattle.sheet.proofs.reader.finish.Tie as tie
 
--- src/reader.rt:284:9
 returns : tie.Need-returns
 unfolding finish
 returns c = simp (c .if1 .taken)
 
--- src/reader.rt:286:9
 some-read-requires : tie.Need-some-read-requires
 some-read-requires c κs = counted-of _ _ _ _ _ (c .before .before .before .pre .between)
 
--- src/reader.rt:288:37
 cast-t9 : tie.Need-cast-t9
 cast-t9 c = let k = c .before .before .before .before .before .pre .short in omega arith
 
--- src/reader.rt:288:9
 returns-2 : tie.Need-returns-2
 unfolding finish non
 returns-2 c = simp (c .before .before .if1 .left, simp (c .before .some-read .ensures) at (c .if2 .taken))
 
--- src/reader.rt:290:5
 complete-requires : tie.Need-complete-requires
 complete-requires c κs = counted-of _ _ _ _ _ (c .before .before .before .before .before .pre .between)
 
--- src/reader.rt:278:1
 returns-3 : tie.Need-returns-3
 unfolding finish non
 returns-3 c = c .complete .ensures ∙ simp (c .before .before .before .if1 .left, simp (c .before .before .some-read .ensures) at (c .before .if2 .left))

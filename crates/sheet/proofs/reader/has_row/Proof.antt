@@ -20,47 +20,37 @@ Inv-loop s x e n hint rows j₀ j = (j ≤ x .rows) × (any (isRow e n) (rowsIn 
 abbrev μ-loop : tie.MeasureT-loop
 μ-loop s x e n hint rows j₀ j = x .rows - j
 
--- src/reader.rt:202:19
 row-no-requires : tie.Need-row-no-requires Inv-loop μ-loop
 row-no-requires c κs = c .before .before .pre _ (c .if1 .taken)
 
--- src/reader.rt:202:12
 is-row-requires : tie.Need-is-row-requires Inv-loop μ-loop
 is-row-requires c κs = search needs
 
--- src/reader.rt:203:13
 returns : tie.Need-returns Inv-loop μ-loop
 returns c = let k = rows-count (now (c .before .before .before .before .before .args .s)) (c .before .before .before .before .before .args .x .head .edition) (c .before .before .before .before .before .args .x .«rows_at») (c .before .before .before .before .before .args .x .rows) in
     sym (any-at (isRow (c .before .before .before .before .before .args .e) (c .before .before .before .before .before .args .n)) (rowsIn (now (c .before .before .before .before .before .args .s)) (c .before .before .before .before .before .args .x)) (c .before .before .before .before .before .args .hint) noRow (rw k (c .before .before .before .if1 .taken))
     (ap (isRow (c .before .before .before .before .before .args .e) (c .before .before .before .before .before .args .n)) (row-at (now (c .before .before .before .before .before .args .s)) (c .before .before .before .before .before .args .x .head .edition) (c .before .before .before .before .before .args .x .«rows_at») (c .before .before .before .before .before .args .x .rows) (c .before .before .before .before .before .args .hint) (c .before .before .before .if1 .taken)) ∙ sym (rw (c .before .before .row-no .ensures) at (c .before .is-row .ensures)) ∙ c .if2 .taken))
 
--- src/reader.rt:207:5
 loop-holds : tie.Need-loop-holds Inv-loop μ-loop
 loop-holds c = (omega arith, refl)
 
--- src/reader.rt:208:26
 row-no-requires-2 : tie.Need-row-no-requires-2 Inv-loop μ-loop
 row-no-requires-2 c κs = c .before .before .before .before .pre _ (c .loop-test .taken)
 
--- src/reader.rt:208:13
 is-row-requires-2 : tie.Need-is-row-requires-2 Inv-loop μ-loop
 is-row-requires-2 c κs = search needs
 
--- src/reader.rt:210:13
 returns-2 : tie.Need-returns-2 Inv-loop μ-loop
 returns-2 c = let k = rows-count (now (c .before .before .before .before .before .before .before .args .s)) (c .before .before .before .before .before .before .before .args .x .head .edition) (c .before .before .before .before .before .before .before .args .x .«rows_at») (c .before .before .before .before .before .before .before .args .x .rows) in
     any-found (isRow (c .before .before .before .before .before .before .before .args .e) (c .before .before .before .before .before .before .before .args .n)) (rowsIn (now (c .before .before .before .before .before .before .before .args .s)) (c .before .before .before .before .before .before .before .args .x)) (c .before .before .before .before .loop .j) noRow (c .before .before .before .before .loop .inv .1) (rw k (c .before .before .before .loop-test .taken))
     (ap (isRow (c .before .before .before .before .before .before .before .args .e) (c .before .before .before .before .before .before .before .args .n)) (row-at (now (c .before .before .before .before .before .before .before .args .s)) (c .before .before .before .before .before .before .before .args .x .head .edition) (c .before .before .before .before .before .before .before .args .x .«rows_at») (c .before .before .before .before .before .before .before .args .x .rows) (c .before .before .before .before .loop .j) (c .before .before .before .loop-test .taken)) ∙ sym (rw (c .before .before .row-no2 .ensures) at (c .before .is-row2 .ensures)) ∙ c .if3 .taken)
 
--- src/reader.rt:212:9
 add-j : tie.Need-add-j Inv-loop μ-loop
 add-j c = omega arith
 
--- src/reader.rt:207:5
 loop-less : tie.Need-loop-less Inv-loop μ-loop
 loop-less c = omega arith
 
--- src/reader.rt:207:5
 loop-again : tie.Need-loop-again Inv-loop μ-loop
 loop-again c = let k = rows-count (now (c .before .before .before .before .before .before .before .args .s)) (c .before .before .before .before .before .before .before .args .x .head .edition) (c .before .before .before .before .before .before .before .args .x .«rows_at») (c .before .before .before .before .before .before .before .args .x .rows) in (
   omega arith,
@@ -68,7 +58,6 @@ loop-again c = let k = rows-count (now (c .before .before .before .before .befor
       (ap (isRow (c .before .before .before .before .before .before .before .args .e) (c .before .before .before .before .before .before .before .args .n)) (row-at (now (c .before .before .before .before .before .before .before .args .s)) (c .before .before .before .before .before .before .before .args .x .head .edition) (c .before .before .before .before .before .before .before .args .x .«rows_at») (c .before .before .before .before .before .before .before .args .x .rows) (c .before .before .before .before .loop .j) (c .before .before .before .loop-test .taken)) ∙ sym (rw (c .before .before .row-no2 .ensures) at (c .before .is-row2 .ensures)) ∙ c .if3 .left),
 )
 
--- src/reader.rt:197:1
 returns-3 : tie.Need-returns-3 Inv-loop μ-loop
 returns-3 c = let k = rows-count (now (c .before .before .before .before .args .s)) (c .before .before .before .before .args .x .head .edition) (c .before .before .before .before .args .x .«rows_at») (c .before .before .before .before .args .x .rows) in
     any-none (isRow (c .before .before .before .before .args .e) (c .before .before .before .before .args .n)) (rowsIn (now (c .before .before .before .before .args .s)) (c .before .before .before .before .args .x)) (c .before .loop .j) (c .before .loop .inv .1) (rw k (c .loop-test .left))

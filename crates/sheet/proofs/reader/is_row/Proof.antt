@@ -6,11 +6,9 @@ use borrow.Author.Needs.{needs}
 use Rattle.sheet.proofs.reader.is_row.Statement.{statement}
 use Rattle.sheet.proofs.reader.is_row.Tie as tie
 
--- src/reader.rt:193:24
 cast-result : tie.Need-cast-result
 cast-result c = search needs
 
--- src/reader.rt:190:1
 returns : tie.Need-returns
 unfolding isRow _and_
 returns c = refl

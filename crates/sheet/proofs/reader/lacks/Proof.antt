@@ -7,19 +7,15 @@ use borrow.Author.Needs.{needs}
 use Rattle.sheet.proofs.reader.lacks.Statement.{statement}
 use Rattle.sheet.proofs.reader.lacks.Tie as tie
 
--- src/reader.rt:242:9
 reads-requires : tie.Need-reads-requires
 reads-requires c κs = search needs
 
--- src/reader.rt:244:9
 returns : tie.Need-returns
 returns c = sym (and-fails (reads (c .before .before .before .args .a)) _ (sym (c .before .reads .ensures) ∙ not-true (c .before .reads .result) (c .if1 .taken)))
 
--- src/reader.rt:246:5
 lacks-from-requires : tie.Need-lacks-from-requires
 lacks-from-requires c κs = c .before .before .before .pre
 
--- src/reader.rt:239:1
 returns-2 : tie.Need-returns-2
 returns-2 c = c .lacks-from .ensures ∙ sym (and-holds (reads (c .before .before .before .before .args .a)) _ (sym (c .before .before .reads .ensures) ∙ not-false (c .before .before .reads .result) (c .before .if1 .left)))
 

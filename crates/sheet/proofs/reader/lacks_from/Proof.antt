@@ -27,49 +27,38 @@ Inv-loop s x e start width hint i₀ i = (i ≤ width) × (any (bare s x e) (fro
 abbrev μ-loop : tie.MeasureT-loop
 μ-loop s x e start width hint i₀ i = width - i
 
--- src/reader.rt:222:5
 loop-holds : tie.Need-loop-holds Inv-loop μ-loop
 loop-holds c = (omega arith, refl)
 
--- src/reader.rt:227:28
 cast-has-row : tie.Need-cast-has-row Inv-loop μ-loop
 cast-has-row c = search needs
 
--- src/reader.rt:227:13
 add-has-row : tie.Need-add-has-row Inv-loop μ-loop
 add-has-row c = search needs
 
--- src/reader.rt:228:29
 cast-has-row-2 : tie.Need-cast-has-row-2 Inv-loop μ-loop
 cast-has-row-2 c = search needs
 
--- src/reader.rt:228:15
 add-has-row-2 : tie.Need-add-has-row-2 Inv-loop μ-loop
 add-has-row-2 c = search needs
 
--- src/reader.rt:228:13
 cast-has-row-3 : tie.Need-cast-has-row-3 Inv-loop μ-loop
 cast-has-row-3 c = search needs
 
--- src/reader.rt:223:13
 has-row-requires : tie.Need-has-row-requires Inv-loop μ-loop
 has-row-requires c κs = c .before .before .before .pre
 
--- src/reader.rt:231:13
 returns : tie.Need-returns Inv-loop μ-loop
 unfolding non
 returns c = any-found (bare (now (c .before .before .before .before .before .args .s)) (c .before .before .before .before .before .args .x) (c .before .before .before .before .before .args .e)) (from (c .before .before .before .before .before .args .start) (c .before .before .before .before .before .args .width)) (c .before .before .before .loop .i) 0 (c .before .before .before .loop .inv .1) (rw (from-length (c .before .before .before .before .before .args .start) (c .before .before .before .before .before .args .width)) (c .before .before .loop-test .taken))
     (ap (bare (now (c .before .before .before .before .before .args .s)) (c .before .before .before .before .before .args .x) (c .before .before .before .before .before .args .e)) (from-at (c .before .before .before .before .before .args .start) (c .before .before .before .before .before .args .width) (c .before .before .before .loop .i) 0 (c .before .before .loop-test .taken)) ∙ sym (ap non (c .before .has-row .ensures)) ∙ c .if1 .taken)
 
--- src/reader.rt:233:9
 add-i : tie.Need-add-i Inv-loop μ-loop
 add-i c = omega arith
 
--- src/reader.rt:222:5
 loop-less : tie.Need-loop-less Inv-loop μ-loop
 loop-less c = omega arith
 
--- src/reader.rt:222:5
 loop-again : tie.Need-loop-again Inv-loop μ-loop
 unfolding non
 loop-again c = (
@@ -78,7 +67,6 @@ loop-again c = (
       (ap (bare (now (c .before .before .before .before .before .args .s)) (c .before .before .before .before .before .args .x) (c .before .before .before .before .before .args .e)) (from-at (c .before .before .before .before .before .args .start) (c .before .before .before .before .before .args .width) (c .before .before .before .loop .i) 0 (c .before .before .loop-test .taken)) ∙ sym (ap non (c .before .has-row .ensures)) ∙ c .if1 .left),
 )
 
--- src/reader.rt:218:1
 returns-2 : tie.Need-returns-2 Inv-loop μ-loop
 returns-2 c = any-none (bare (now (c .before .before .before .args .s)) (c .before .before .before .args .x) (c .before .before .before .args .e)) (from (c .before .before .before .args .start) (c .before .before .before .args .width)) (c .before .loop .i) (c .before .loop .inv .1) (rw (from-length (c .before .before .before .args .start) (c .before .before .before .args .width)) (c .loop-test .left))
 

@@ -8,63 +8,48 @@ use borrow.Author.Needs.{needs}
 use Rattle.sheet.proofs.reader.read.Statement.{statement}
 use Rattle.sheet.proofs.reader.read.Tie as tie
 
--- src/reader.rt:309:9
 refuse-requires : tie.Need-refuse-requires
 refuse-requires c κs = search needs
 
--- src/reader.rt:309:9
 returns : tie.Need-returns
 returns c = handed-refusal (now (c .before .before .before .args .s)) 1 0 (c .refuse .result) (c .refuse .ensures) (too-long (now (c .before .before .before .args .s)) (c .before .if1 .taken))
 
--- src/reader.rt:312:26
 slice-aggregate-fields : tie.Need-slice-aggregate-fields
 slice-aggregate-fields c = search needs
 
--- src/reader.rt:312:9
 fields-requires : tie.Need-fields-requires
 fields-requires c κs = (c .before .if1 .left, refl)
 
--- src/reader.rt:314:23
 enum-known-scan : tie.Need-enum-known-scan
 enum-known-scan c = search needs
 
--- src/reader.rt:314:32
 refuse-requires-2 : tie.Need-refuse-requires-2
 refuse-requires-2 c κs = search needs
 
--- src/reader.rt:315:21
 enum-known-scan-2 : tie.Need-enum-known-scan-2
 enum-known-scan-2 c = search needs
 
--- src/reader.rt:316:46
 slice-aggregate-finish : tie.Need-slice-aggregate-finish
 slice-aggregate-finish c = search needs
 
--- src/reader.rt:316:17
 finish-requires : tie.Need-finish-requires
 finish-requires c κs = rw (c .before .before .scan2 .given .1) at (c .before .before .before .before .before .fields .ensures)
 
--- src/reader.rt:318:34
 enum-known-reading : tie.Need-enum-known-reading
 enum-known-reading c = search needs
 
--- src/reader.rt:318:43
 refuse-requires-3 : tie.Need-refuse-requires-3
 refuse-requires-3 c κs = search needs
 
--- src/reader.rt:320:30
 enum-told : tie.Need-enum-told
 enum-told c = search needs
 
--- src/reader.rt:305:1
 returns-2 : tie.Need-returns-2
 returns-2 c = handed-refusal (now (c .before .before .before .before .before .before .before .before .before .args .s)) _ _ (c .refuse2 .result) (c .refuse2 .ensures) (rw (c .before .before .scan .given .1) at (c .before .before .before .before .before .fields .ensures))
 
--- src/reader.rt:305:1
 returns-3 : tie.Need-returns-3
 returns-3 c = handed-refusal (now (c .before .before .before .before .before .before .before .before .before .before .before .before .before .before .args .s)) _ _ (c .refuse3 .result) (c .refuse3 .ensures) ((rw (c .before .before .before .before .before .before .before .scan2 .given .1) at (c .before .before .before .before .before .before .before .before .before .before .fields .ensures)) .goes ∙ sym (rw (c .before .before .reading .given .1) at (c .before .before .before .before .finish .ensures)))
 
--- src/reader.rt:305:1
 returns-4 : tie.Need-returns-4
 returns-4 c = handed-whole (now (c .before .before .before .before .before .before .before .before .before .before .before .before .args .s)) _ _ _ (rw (c .before .before .before .before .before .scan2 .given .1) at (c .before .before .before .before .before .before .before .before .fields .ensures)) (rw (c .enum-told .given .1) at (c .before .before .finish .ensures))
 

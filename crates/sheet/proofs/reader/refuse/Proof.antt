@@ -3,11 +3,9 @@ use borrow.Author.Needs.{needs}
 use Rattle.sheet.proofs.reader.refuse.Statement.{statement}
 use Rattle.sheet.proofs.reader.refuse.Tie as tie
 
--- src/reader.rt:299:16
 blank-requires : tie.Need-blank-requires
 blank-requires c κs = search needs
 
--- src/reader.rt:294:1
 returns : tie.Need-returns
 returns c = simp (c .blank .ensures)
 

@@ -4,19 +4,15 @@ use borrow.Author.Needs.{needs}
 use Rattle.sheet.proofs.reader.with_event.Statement.{statement}
 use Rattle.sheet.proofs.reader.with_event.Tie as tie
 
--- src/reader.rt:45:13
 add-n : tie.Need-add-n
 add-n c = search needs
 
--- src/reader.rt:50:20
 add-t8 : tie.Need-add-t8
 add-t8 c = search needs
 
--- src/reader.rt:48:9
 returns : tie.Need-returns
 returns c = simp (eq-eqb _ _ (c .if1 .taken))
 
--- src/reader.rt:40:1
 returns-2 : tie.Need-returns-2
 returns-2 c = simp (ne-eqb _ _ (c .if1 .left))
 

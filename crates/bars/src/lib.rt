@@ -5,7 +5,6 @@ use cells::spread;
 use cells::take;
 use format::Row;
 use format::Shape;
-use format::tests;
 use sets::SLOTS;
 use sets::least;
 use tables::ACCESSES;
@@ -32,7 +31,7 @@ fn hits(a: Shape, b: Shape) -> bool
     if a.start != b.start {
         return false;
     }
-    (a.width == b.width) & ((a.mode == 2) & tests::writes(a))
+    (a.width == b.width) & ((a.mode == 2) & access::writes(a))
 }
 
 // Has event v a writing sc access with the range of b?
@@ -51,7 +50,7 @@ fn note(t: &[u8; COLUMNS], k: usize, starts: &mut [u32])
     ensures { λ _. ⌜ now (starts .exit) ≡ startGains (now (t .entry)) (k % accesses) (now (starts .entry)) ⌝ }
 {
     let a = tables::shape(t, k);
-    let noted = (a.mode == 2) & tests::writes(a);
+    let noted = (a.mode == 2) & access::writes(a);
     if !noted {
         return;
     }
@@ -117,7 +116,7 @@ fn only(test: bool, m: u32) -> u32
 fn reasons(a: Shape, b: Shape, as_a: u32, as_b: u32, wr: bool, before: u32, after: u32) -> u32
     ensures { λ r. ⌜ r ≡ reasonsIn a b as_a as_b wr before after ⌝ }
 {
-    let x = only(tests::both_sc(b, a), as_a);
+    let x = only(access::both_sc(b, a), as_a);
     let y = only(wr & (b.mode == 2), as_b & before);
     let z = only(wr & (a.mode == 2), as_a & after);
     x | (y | z)

@@ -5,7 +5,6 @@ use cells::place;
 use cells::scatter;
 use format::Pair;
 use format::Row;
-use format::tests;
 use sets::SLOTS;
 use sets::least;
 use tables::AGENTS;
@@ -32,7 +31,7 @@ fn meets(t: &[u8; COLUMNS], e: usize, d: usize) -> bool
     let j = 2 * (d % SLOTS);
     let a = tables::shape(t, i);
     let c = tables::shape(t, j);
-    if tests::overlap(a, c) {
+    if access::overlap(a, c) {
         return true;
     }
     let b = tables::shape(t, i + 1);
@@ -40,7 +39,7 @@ fn meets(t: &[u8; COLUMNS], e: usize, d: usize) -> bool
     if (b.width == 0) & (f.width == 0) {
         return false;
     }
-    tests::overlap(a, f) | (tests::overlap(b, c) | tests::overlap(b, f))
+    access::overlap(a, f) | (access::overlap(b, c) | access::overlap(b, f))
 }
 
 // Is d another event that e meets?
@@ -114,7 +113,7 @@ fn syncs(t: &[u8; COLUMNS], r: Row) -> bool
     if w.mode != 2 {
         return false;
     }
-    tests::both_sc(w, tables::at(t, r.reader as usize, r.address))
+    access::both_sc(w, tables::at(t, r.reader as usize, r.address))
 }
 
 // The row's writer leads to its reader, where the two synchronise.

@@ -2,7 +2,6 @@
 use answer::Names;
 use answer::Rule;
 use format::Row;
-use format::tests;
 use sets::SLOTS;
 use sets::least;
 use tables::COLUMNS;
@@ -72,7 +71,7 @@ fn writes_byte(t: &[u8; COLUMNS], v: usize, a: u8) -> bool
     ensures { λ r. ⌜ r ≡ writesIn (now (t .entry)) (v % slots) a ⌝ }
 {
     let b = tables::at(t, v, a);
-    tests::covers(b, a) & tests::writes(b)
+    access::covers(b, a) & access::writes(b)
 }
 
 // The least member of a set that writes the flat byte; 32 where none does.

@@ -1,7 +1,6 @@
 // The lowest unsettled pair over the tables. No function has a `requires`.
 use answer::Settled;
 use format::Shape;
-use format::tests;
 use sets::SLOTS;
 use sets::least;
 use tables::COLUMNS;
@@ -16,10 +15,10 @@ ghost use Rattle.settle.specs.Settle.{clashing, clashIn, aheadIn, freeIn
 fn clash(a: Shape, b: Shape) -> bool
     ensures { λ r. ⌜ r ≡ clashing a b ⌝ }
 {
-    if !tests::overlap(a, b) {
+    if !access::overlap(a, b) {
         return false;
     }
-    (tests::writes(a) | tests::writes(b)) & !tests::both_sc(a, b)
+    (access::writes(a) | access::writes(b)) & !access::both_sc(a, b)
 }
 
 // Do an access of e and one of d? Most events have no second access.

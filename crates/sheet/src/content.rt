@@ -10,7 +10,6 @@ use format::MAX_OTHERS;
 use format::Pair;
 use format::Row;
 use format::Shape;
-use format::tests;
 ghost use mathlib.Core.Path.{_≡_};
 ghost use Rattle.basis.specs.Test.{any};
 ghost use Rattle.format.specs.Limits.{slots};
@@ -96,7 +95,7 @@ fn meets(s: &[u8], x: Sheet, at: &[u16], a: Shape) -> bool
     let mut i: u8 = 0;
     while i < n {
         let p = at[i as usize];
-        let hit = tests::overlap(a, held::shape_at(s, p));
+        let hit = access::overlap(a, held::shape_at(s, p));
         if hit {
             return true;
         }
@@ -161,7 +160,7 @@ fn reads_at(s: &[u8], x: Sheet, at: &[u16], e: u8, n: u8) -> bool
         return false;
     }
     let a = held::shape_at(s, at[e as usize]);
-    tests::covers(a, n) & tests::reads(a)
+    access::covers(a, n) & access::reads(a)
 }
 
 fn writes_at(s: &[u8], x: Sheet, at: &[u16], e: u8, n: u8) -> bool
@@ -173,7 +172,7 @@ fn writes_at(s: &[u8], x: Sheet, at: &[u16], e: u8, n: u8) -> bool
         return false;
     }
     let a = held::shape_at(s, at[e as usize]);
-    tests::covers(a, n) & tests::writes(a)
+    access::covers(a, n) & access::writes(a)
 }
 
 fn is_marker(s: &[u8], x: Sheet, at: &[u16], e: u8) -> bool

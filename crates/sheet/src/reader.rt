@@ -11,7 +11,6 @@ use format::Row;
 use format::Shape;
 use format::field;
 use format::layout;
-use format::tests;
 ghost use mathlib.Core.Path.{_≡_};
 ghost use Prim.Native.Nat.{ℕ, _+_, _≤_, _<_};
 ghost use lib.ListN.{length, getD, replicate};
@@ -179,7 +178,7 @@ fn some_read(s: &[u8], x: Sheet, at: &[u16]) -> bool
     let mut i: u8 = 0;
     while i < n {
         let p = at[i as usize];
-        let hit = tests::reads(held::shape_at(s, p));
+        let hit = access::reads(held::shape_at(s, p));
         if hit {
             return true;
         }
@@ -243,7 +242,7 @@ fn lacks(s: &[u8], x: Sheet, e: u8, a: Shape, hint: u16) -> bool
     requires { ⌜ RowsHeld (now s) x ⌝ }
     ensures { λ r. ⌜ r ≡ (reads a and any (λ (n : ℕ). non (any (isRow e n) (rowsIn (now (s .entry)) x))) (from (a .start) (a .width))) ⌝ }
 {
-    let seen = tests::reads(a);
+    let seen = access::reads(a);
     if !seen {
         return false;
     }
@@ -252,7 +251,7 @@ fn lacks(s: &[u8], x: Sheet, e: u8, a: Shape, hint: u16) -> bool
 
 // The number of the row behind those of an event of shape a, where `hint` is that of its first.
 fn past(hint: u16, a: Shape) -> u16 {
-    if tests::reads(a) {
+    if access::reads(a) {
         return ((hint as u32 + a.width as u32) % 65536) as u16;
     }
     hint

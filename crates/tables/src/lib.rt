@@ -1,9 +1,9 @@
 // The tables that every step of the judge works on, in arrays of fixed length. No function has a `requires`: an event counts by its place
 // among 32, a slot by its place among 64, a row by its place among 512.
+use access::covers;
 use format::Pair;
 use format::Row;
 use format::Shape;
-use format::tests::covers;
 ghost use mathlib.Core.Path.{_≡_};
 ghost use Prim.Native.Nat.{_%_};
 ghost use lib.ListN.{set};

@@ -3,7 +3,6 @@ use answer::Names;
 use answer::Rule;
 use cells::gain;
 use format::Row;
-use format::tests;
 use sets::SLOTS;
 use sets::least;
 use tables::ACCESSES;
@@ -26,7 +25,7 @@ fn untorn(t: &[u8; COLUMNS], r: Row) -> bool
 {
     let a = tables::shape(t, tables::slot_at(t, r.reader as usize, r.address));
     let b = tables::shape(t, tables::slot_at(t, r.writer as usize, r.address));
-    (a.tear == 1) & ((b.tear == 1) & tests::equal(a, b))
+    (a.tear == 1) & ((b.tear == 1) & access::equal(a, b))
 }
 
 // The mask of the reader's access gains the writer, where the row is untorn.

@@ -25,6 +25,7 @@ use Rattle.model.specs.Litmus.{Entry, example, proved, sheet, head, init
 use Rattle.model.specs.Further.{further}
 
 -- the answer and the order, with all that they compute with open
+-- A new definition that they compute with must join the list behind `unfolding`, or `refl` fails in `litmus` and `litmus-more` below.
 unfoldable pub told : List ℕ → ℕ → ℕ → Answer × List ℕ
 unfolding _and_ _or_ non any all number keep find _else_ mapped each across from reads writes marks initial unordered sc tearFree covers overlap equal bothSc divides tearOf lookup accessAt shapeAt readsAt writesAt saw wrote isInit readsSome isMarker meets eventNo event inits others rowBelow pairBelow valueAt eventBytes seenOf writtenOf rowBytes within headFits inside initFormed sized kindFits otherFormed formed standsFirst eventFits dataBytes roomFor joins rowRises rowFits parts pairRises pairFits placeOf allowed headFault eventFault rowFault pairFault valueFault faultAt taken after isRow lacks lowestLacking completed finish fieldsFrom parse numbers atRow anyTwo agentOrder rowSyncs synchronises initFirst step breaks21 breaks22 breaks23 breaks24 untorn untornFrom breaks25 fault21 fault22 fault23 fault24 fault25 fault barA barB barC rowBars clash unsettled unsettledPair lent admitted settledOf table look through warshall hbTable member put kept without barList firstOf gated unlessDone free search firstOrder verdict outcomeOf outcome
 told s room places = let o = outcome s room places in (o .answer, o .order)

@@ -13,7 +13,7 @@ use Rattle.basis.proofs.LoopLaws.{true-T, T-true}
 use Rattle.format.specs.Event.{writesAt}
 use Rattle.format.specs.Execution.{Execution, others}
 use Rattle.format.proofs.EventLaws.{writesAt-nobody}
-use Rattle.sheet.proofs.PromiseLaws.{promise}
+use Rattle.parse.proofs.PromiseLaws.{promise}
 use Rattle.sets.specs.Mask.{slots}
 use Rattle.sets.specs.Table.{bytesFor, cleared}
 use Rattle.orders.specs.Problem.{Problem}

@@ -18,7 +18,7 @@ use Rattle.basis.proofs.SortedLaws.{Sorted, Then, find-first}
 use Rattle.format.specs.declared.Row.{Row}
 use Rattle.format.specs.Event.{writesAt}
 use Rattle.format.specs.Execution.{Execution, event, rowBelow, noRow}
-use Rattle.sheet.specs.Promise.{WellFormed, row}
+use Rattle.parse.specs.Promise.{WellFormed, row}
 use Rattle.orders.specs.Order.{Meets}
 use Rattle.orders.specs.First.{Lex}
 use Rattle.orders.proofs.FirstLaws.{Tri, below, same, above, tri}

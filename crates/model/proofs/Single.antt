@@ -23,7 +23,7 @@ use Rattle.format.specs.Shape.{noShape, reads, writes, marks, sc, tearFree, cov
 use Rattle.format.specs.Event.{Access, Event, isInit, isMarker, nobody, accessAt, shapeAt, readsAt, writesAt}
 use Rattle.format.specs.Execution.{Execution, event}
 use Rattle.format.proofs.EventLaws.{one, access-hit, writesAt-one, readsAt-one, isMarker-one, isMarker-nobody, writesAt-nobody, readsAt-nobody, covers-nothing}
-use Rattle.sheet.specs.Promise.{WellFormed}
+use Rattle.parse.specs.Promise.{WellFormed}
 use Rattle.orders.specs.Order.{Precedes, Meets}
 use Rattle.model.specs.Events.{atRow, ofReader, ofWriter, anyTwo}
 use Rattle.model.specs.Happens.{rowSyncs, synchronises, initFirst}

@@ -18,7 +18,7 @@ use Rattle.format.specs.Shape.{marks, overlap}
 use Rattle.format.specs.Event.{Access, Event, nobody, isInit, meets, readsAt, writesAt, isMarker}
 use Rattle.format.specs.Execution.{Execution, eventNo, event, inits, noRow, noPair}
 use Rattle.format.proofs.EventLaws.{isMarker-nobody}
-use Rattle.sheet.specs.Promise.{WellEvent, WellFormed, row, pair}
+use Rattle.parse.specs.Promise.{WellEvent, WellFormed, row, pair}
 use Rattle.model.specs.Events.{anyTwo}
 use Rattle.model.proofs.ShapeLaws.{overlap-sym}
 use Rattle.model.proofs.EventsLaws.{event-inside, access-inside, two-elim}

@@ -16,11 +16,11 @@ use lib.ListN.{length, take, drop, take-append-drop}
 use Rattle.basis.proofs.LoopLaws.{T-false}
 use Rattle.format.specs.Limits.{maxInits, maxOthers, maxEvents}
 use Rattle.format.specs.Execution.{Execution}
-use Rattle.sheet.specs.Parse.{Parsed, refused, whole, parse}
-use Rattle.sheet.specs.Promise.{WellFormed}
-use Rattle.sheet.specs.WellSheet.{WellSheet}
-use Rattle.sheet.proofs.PromiseLaws.{promise}
-use Rattle.sheet.proofs.WellSheetLaws.{exactly}
+use Rattle.parse.specs.Parse.{Parsed, refused, whole, parse}
+use Rattle.parse.specs.Promise.{WellFormed}
+use Rattle.parse.specs.WellSheet.{WellSheet}
+use Rattle.parse.proofs.PromiseLaws.{promise}
+use Rattle.parse.proofs.WellSheetLaws.{exactly}
 use Rattle.sets.proofs.TableLaws.{bytes-mono}
 use Rattle.orders.specs.Order.{Meets}
 use Rattle.orders.specs.First.{FirstOf}

@@ -1,5 +1,5 @@
 -- What the private steps of this crate answer: an event by its number, where there may be none; what keeps an init from standing behind an event.
--- Laws: proofs/FitsLaws.antt. What the crate promises stands in crates/content/specs/Content.antt.
+-- Laws: proofs/ByNumberLaws.antt. What the crate promises stands in crates/content/specs/Content.antt.
 --     shapeNo, agentNo     of event e
 --     blocks a d           d is no init, or overlaps a
 -- Assumes nothing.

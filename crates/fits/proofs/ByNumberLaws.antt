@@ -1,4 +1,4 @@
--- The laws of specs/Fits.antt. Assumes nothing.
+-- The laws of specs/steps/ByNumber.antt. Assumes nothing.
 --     reads-no, writes-no, marks-no, agent-no     what event e does, by its shape and agent, whether there is such an event or not
 --     blocks-at                     what is asked of event i
 --     stands-free                   an init may stand behind events of which none blocks it
@@ -22,7 +22,7 @@ use Rattle.content.specs.Content.{standsFirst}
 use Rattle.entries.specs.declared.Counts.{Counts}
 use Rattle.entries.specs.Entries.{eventsOn, eventsIn}
 use Rattle.entries.proofs.EntriesLaws.{events-capped, readsAt-at, readsAt-past, writesAt-at, writesAt-past, isMarker-at, isMarker-past, agent-at, agent-past, meets-at}
-use Rattle.fits.specs.Fits.{shapeNo, agentNo, blocks}
+use Rattle.fits.specs.steps.ByNumber.{shapeNo, agentNo, blocks}
 
 module _ (s : List ℕ) (x : Counts) (at : List ℕ) where
   abbrev n : ℕ

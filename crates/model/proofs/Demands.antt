@@ -17,8 +17,8 @@ use Rattle.sheet.proofs.DescribedLaws.{rowless-refused}
 use Rattle.sheet.proofs.PromiseLaws.{promise}
 use Rattle.sheet.proofs.WellSheetLaws.{exactly}
 use Rattle.sheet.proofs.RefusalLaws.{refusal, refusal-number}
-use Rattle.sets.specs.Table.{cleared}
-use Rattle.sets.proofs.TableLaws.{cleared-within, cleared-rest, length-cleared}
+use Rattle.marks.specs.Table.{cleared}
+use Rattle.marks.proofs.TableLaws.{cleared-within, cleared-rest, length-cleared}
 use Rattle.orders.specs.Order.{Meets}
 use Rattle.orders.specs.First.{FirstOf}
 use Rattle.orders.proofs.InitsLaws.{first-inits}

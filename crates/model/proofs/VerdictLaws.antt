@@ -21,7 +21,7 @@ use Rattle.sheet.specs.Promise.{WellFormed}
 use Rattle.sheet.specs.WellSheet.{WellSheet}
 use Rattle.sheet.proofs.PromiseLaws.{promise}
 use Rattle.sheet.proofs.WellSheetLaws.{exactly}
-use Rattle.sets.proofs.TableLaws.{bytes-mono}
+use Rattle.marks.proofs.TableLaws.{bytes-mono}
 use Rattle.orders.specs.Order.{Meets}
 use Rattle.orders.specs.First.{FirstOf}
 use Rattle.orders.proofs.FirstLaws.{first-unique}

@@ -40,8 +40,8 @@ fn put_event(v: &[u8], i: usize, t: &mut [u8])
     let k = 2 * (i % SLOTS);
     let agent = field::byte(v, 0);
     let a = layout::shape_of(v);
-    tables::put_agent(t, i, agent);
-    tables::put_access(t, k, a);
+    store::put_agent(t, i, agent);
+    store::put_access(t, k, a);
 }
 
 // Event e, whose field stands at p, into its first slot. What is asked of its value stands in five bytes: a part of that length is read without a
@@ -134,7 +134,7 @@ fn row(s: &[u8], x: Sheet, at: &[u16], t: &[u8], j: u16, q: &mut [u8])
     let write = access(t, r.writer);
     let behind = data_at(edition, entry::place_of(at, r.writer), write, r.address);
     let wrote = field::byte(s, behind as usize + passed(write) as usize);
-    tables::put_row(q, j as usize, r, seen, wrote);
+    store::put_row(q, j as usize, r, seen, wrote);
 }
 
 // The sheet's rows, as many as have a place, by the table of accesses.
@@ -151,7 +151,7 @@ fn rows(s: &[u8], x: Sheet, at: &[u16], t: &[u8], q: &mut [u8])
 fn pair(s: &[u8], x: Sheet, j: u16, p: &mut [u8])
     ensures { λ _. ⌜ now (p .exit) ≡ pairPut (now (s .entry)) x j (now (p .entry)) ⌝ }
 {
-    tables::put_pair(p, j as usize, entry::pair_no(s, x, j));
+    store::put_pair(p, j as usize, entry::pair_no(s, x, j));
 }
 
 // The sheet's pairs, as many as have a place.

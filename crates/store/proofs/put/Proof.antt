@@ -1,10 +1,10 @@
--- `tables::put` meets its contract: beyond the end nothing is written. Assumes nothing.
+-- `store::put` meets its contract: beyond the end nothing is written. Assumes nothing.
 use mathlib.Core.Path.{sym}
 use denote.Ref.{now}
 use lib.Seq.{set-out}
 use borrow.Author.Needs.{needs}
-use Rattle.tables.proofs.put.Statement.{statement}
-use Rattle.tables.proofs.put.Tie as tie
+use Rattle.store.proofs.put.Statement.{statement}
+use Rattle.store.proofs.put.Tie as tie
 
 slice-write-bytes : tie.Need-slice-write-bytes
 slice-write-bytes c = search needs

@@ -1,7 +1,7 @@
--- `tables::put_pair` meets its contract, write by write. Assumes nothing.
+-- `store::put_pair` meets its contract, write by write. Assumes nothing.
 use borrow.Author.Needs.{needs}
-use Rattle.tables.proofs.put_pair.Statement.{statement}
-use Rattle.tables.proofs.put_pair.Tie as tie
+use Rattle.store.proofs.put_pair.Statement.{statement}
+use Rattle.store.proofs.put_pair.Tie as tie
 
 put-requires : tie.Need-put-requires
 put-requires c κs = search needs

@@ -1,18 +1,18 @@
--- `report::put_decimal` meets its contract, as `decimal` goes: the digits of the tenth, and one digit more. The measure is the number.
+-- `puts::put_decimal` meets its contract, as `decimal` goes: the digits of the tenth, and one digit more. The measure is the number.
 -- Assumes nothing.
 use Prim.Native.Nat.{ℕ, _<_}
 use native.Mathlib.Omega.{arith}
 use borrow.Author.Needs.{needs}
 use borrow.Fn.Kinds.{In}
 use borrow.Fn.PlainCycle.{Measures, is, falls, and}
-use Rattle.report.proofs.DecimalLaws.{decimal-less, decimal-more, decimal-some, length-more}
-use Rattle.report.proofs.PutLaws.{put-then}
-use Rattle.report.proofs.put.Reads as put-reads
-use Rattle.report.proofs.put_decimal.Reads as put-decimal
-use Rattle.report.proofs.put_decimal.Kinds as put-decimal-kinds
-use Rattle.report.proofs.+put_decimal.Lts-put_decimal as lts
-use Rattle.report.proofs.+put_decimal.{statement}
-use Rattle.report.proofs.+put_decimal.Tie.{close}
+use Rattle.puts.proofs.DecimalLaws.{decimal-less, decimal-more}
+use Rattle.puts.proofs.PutLaws.{puts-then}
+use Rattle.puts.proofs.put.Reads as put-reads
+use Rattle.puts.proofs.put_decimal.Reads as put-decimal
+use Rattle.puts.proofs.put_decimal.Kinds as put-decimal-kinds
+use Rattle.puts.proofs.+put_decimal.Lts-put_decimal as lts
+use Rattle.puts.proofs.+put_decimal.{statement}
+use Rattle.puts.proofs.+put_decimal.Tie.{close}
 
 abbrev μ-put-decimal : Measures 1 put-decimal-kinds.ps ℕ
 μ-put-decimal κs a = a .1 .1 .0
@@ -37,7 +37,7 @@ add-put : (t : ℕ) → lts.Need-add-put (claims t) (at-measure t) put-decimal.P
 add-put t c = search needs
 
 put-requires : (t : ℕ) → lts.Need-put-requires (claims t) (at-measure t) put-decimal.Post
-put-requires t c κs = omega (arith, decimal-some (c .before .before .before .args .n))
+put-requires t c κs = tt
 
 same-length : (t : ℕ) → lts.Need-same-length (claims t) (at-measure t) put-decimal.Post
 same-length t c = search needs
@@ -48,7 +48,7 @@ returns t c = rw (decimal-less (c .before .before .before .before .before .befor
 -- ---- more
 
 put-decimal-requires : (t : ℕ) → lts.Need-put-decimal-requires (claims t) (at-measure t) put-decimal.Post
-put-decimal-requires t c κs = omega (arith, length-more (c .before .before .before .args .n) (c .before .if1 .left))
+put-decimal-requires t c κs = (let h = c .before .if1 .left in omega (arith, h), tt)
 
 cast-put-2 : (t : ℕ) → lts.Need-cast-put-2 (claims t) (at-measure t) put-decimal.Post
 cast-put-2 t c = search needs
@@ -57,14 +57,14 @@ add-put-2 : (t : ℕ) → lts.Need-add-put-2 (claims t) (at-measure t) put-decim
 add-put-2 t c = search needs
 
 put-requires-2 : (t : ℕ) → lts.Need-put-requires-2 (claims t) (at-measure t) put-decimal.Post
-put-requires-2 t c κs = omega (arith, length-more (c .before .before .before .before .before .before .before .args .n) (c .before .before .before .before .before .if1 .left))
+put-requires-2 t c κs = tt
 
 same-length-2 : (t : ℕ) → lts.Need-same-length-2 (claims t) (at-measure t) put-decimal.Post
 same-length-2 t c = search needs
 
 returns-2 : (t : ℕ) → lts.Need-returns-2 (claims t) (at-measure t) put-decimal.Post
 returns-2 t c =
-    rw (decimal-more (c .before .before .before .before .before .before .before .before .before .before .args .n) (c .before .before .before .before .before .before .before .before .if1 .left)) (put-then (c .before .before .before .before .before .before .put-decimal .ensures) (c .before .before .put2 .ensures))
+    rw (decimal-more (c .before .before .before .before .before .before .before .before .before .before .args .n) (c .before .before .before .before .before .before .before .before .if1 .left)) (puts-then (c .before .before .before .before .before .before .put-decimal .ensures) (c .before .before .put2 .ensures))
 
 pub +put-decimal-spec : {M : Type 1} → statement M
 +put-decimal-spec =

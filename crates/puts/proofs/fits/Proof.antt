@@ -1,4 +1,4 @@
--- `report::fits` meets its contract. The invariant: `end` is the place after the first i events, and within the limit. Where the next event
+-- `puts::fits` meets its contract. The invariant: `end` is the place after the first i events, and within the limit. Where the next event
 -- would pass the limit, all of them do; where none is left, none does. The measure is what is left. Assumes nothing.
 use mathlib.Core.Path.{_≡_, sym, ap}
 use Prim.Native.Nat.{_+_, _-_, _≤_, _<_}
@@ -6,10 +6,10 @@ use native.Mathlib.Omega.{arith}
 use borrow.Author.Needs.{needs}
 use borrow.Author.Tests.{lt-leb, le-leb}
 use lib.ListN.{length, getD, take}
-use Rattle.report.specs.Line.{eventsText}
-use Rattle.report.proofs.LineLaws.{byte-length, events-all, events-sum, events-length}
-use Rattle.report.proofs.fits.Statement.{statement}
-use Rattle.report.proofs.fits.Tie as tie
+use Rattle.puts.specs.Numbers.{eventsText}
+use Rattle.puts.proofs.NumbersLaws.{byte-length, events-all, events-sum, events-length}
+use Rattle.puts.proofs.fits.Statement.{statement}
+use Rattle.puts.proofs.fits.Tie as tie
 
 abbrev Inv-loop : tie.InvT-loop
 Inv-loop events at limit end₀ i₀ end i = (i ≤ length events) × (end ≡ at + length (eventsText (take i events))) × (end ≤ limit)

@@ -16,8 +16,8 @@ use native.Mathlib.Nat.{lt-suc-self, not-suc-le-zero, pow-suc}
 use native.Mathlib.Omega.{arith}
 use borrow.Author.Tests.{lt-ltb, le-ltb}
 use lib.ListN.{length, getD, length-append, List·getD-append}
-use Rattle.report.specs.Decimal.{digit, digitsIn, decimal}
-use Rattle.report.proofs.NumberLaws.{less-or-not}
+use Rattle.puts.specs.Decimal.{digit, digitsIn, decimal}
+use Rattle.puts.proofs.NumberLaws.{less-or-not}
 
 -- ---- the digits, by one more
 

@@ -1,11 +1,11 @@
--- `report::width` meets its contract: a byte from 10 on has one digit more than its tenth, at most twice. Assumes nothing.
+-- `puts::width` meets its contract: a byte from 10 on has one digit more than its tenth, at most twice. Assumes nothing.
 use mathlib.Core.Path.{sym, ap}
 use Prim.Native.Nat.{_/_}
 use native.Mathlib.Omega.{arith}
 use lib.ListN.{length}
-use Rattle.report.proofs.DecimalLaws.{decimal-less, length-more}
-use Rattle.report.proofs.width.Statement.{statement}
-use Rattle.report.proofs.width.Tie as tie
+use Rattle.puts.proofs.DecimalLaws.{decimal-less, length-more}
+use Rattle.puts.proofs.width.Statement.{statement}
+use Rattle.puts.proofs.width.Tie as tie
 
 returns : tie.Need-returns
 returns c = sym (ap length (decimal-less (c .before .args .x) (c .if1 .taken)))

@@ -21,10 +21,10 @@ use Rattle.basis.proofs.LoopLaws.{and-fails, and-both, or-none, non-holds}
 use Rattle.basis.proofs.BoolLaws.{and-assoc, or-assoc, non-fails, eqb-swap, below-next, amp-and, not-non}
 use Rattle.format.specs.declared.Row.{Row}
 use Rattle.sets.specs.Mask.{slots, mem, full}
-use Rattle.sets.specs.Closure.{taken}
+use Rattle.closing.specs.Closure.{taken}
 use Rattle.sets.proofs.BoolLaws.{by-bool, false-of}
 use Rattle.sets.proofs.MaskLaws.{mem-empty, mem-diff, mem-full, full-has, lt-of-members, ext-all}
-use Rattle.sets.proofs.ClosureLaws.{closed-unique}
+use Rattle.closing.proofs.ClosureLaws.{closed-unique}
 use Rattle.cells.specs.Walk.{upTo, picked}
 use Rattle.cells.specs.Cells.{gaining, scatter, placing}
 use Rattle.cells.proofs.WalkLaws.{upTo-more, mem-picked}

@@ -25,7 +25,7 @@ use Rattle.format.specs.Shape.{covers, overlap, bothSc}
 use Rattle.format.specs.Event.{Access, Event, isInit, lookup, accessAt, shapeAt}
 use Rattle.format.specs.Execution.{Execution, event}
 use Rattle.sets.specs.Mask.{slots, mem}
-use Rattle.sets.specs.Closure.{taken, Closed}
+use Rattle.closing.specs.Closure.{taken, Closed}
 use Rattle.sets.proofs.BoolLaws.{by-bool}
 use Rattle.sets.proofs.MaskLaws.{mem-empty, ext-all}
 use Rattle.basis.proofs.FindLaws.{any-same, any-each}

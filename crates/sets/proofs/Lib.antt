@@ -1,6 +1,5 @@
 pub mod TellsLaws
 pub mod BoolLaws
 pub mod MaskLaws
+pub mod RestLaws
 pub mod CountLaws
-pub mod TableLaws
-pub mod ClosureLaws

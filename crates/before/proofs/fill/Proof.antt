@@ -7,7 +7,7 @@ use borrow.Author.Needs.{needs}
 use denote.Ref.{now}
 use lib.ListN.{length}
 use Rattle.sets.specs.Mask.{slots}
-use Rattle.sets.specs.Closure.{taken, Closed}
+use Rattle.closing.specs.Closure.{taken, Closed}
 use Rattle.tables.specs.Tables.{rowRoom, pairRoom}
 use Rattle.before.specs.Before.{stepsIn, Ordered}
 use Rattle.before.proofs.fill.Statement.{statement}

@@ -7,7 +7,6 @@ use mathlib.Core.Path.{_≡_, refl, sym, ap, _∙_}
 use Prim.Native.Nat.{ℕ, _*_, _+_, _^_, _<_}
 use native.Mathlib.Omega.{arith}
 use borrow.Author.Tests.{ne-eqb}
-use lib.Dec.{eqb}
 use Rattle.answer.specs.declared.Name.{Name}
 use Rattle.answer.specs.declared.Name.the-variants.{Number, None}
 use Rattle.answer.specs.declared.Four.{Four}
@@ -18,7 +17,7 @@ use Rattle.answer.specs.declared.Settled.the-variants.{Orderly, Unsettle
 use Rattle.answer.specs.declared.Answer.{Answer}
 use Rattle.answer.specs.declared.Answer.the-variants.{Refused, Broken, Consistent}
 use Rattle.answer.specs.Number.{settledNumber}
-use Rattle.answer.specs.NameOf.{four, namesOf, pairOf}
+use Rattle.answer.specs.NameOf.{namesOf, pairOf}
 use Rattle.answer.specs.Word.{byteOf, fourBytes, word, packed}
 use Rattle.answer.specs.Fit.{Below, FourBelow, Fits}
 use Rattle.answer.specs.Read.{kindIn, numberIn, placeIn, byteIn, nameOf, fourIn, namesIn, pairIn, answerIn}

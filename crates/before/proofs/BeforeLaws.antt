@@ -17,16 +17,14 @@ use lib.Bits.{bitAnd}
 use lib.Dec.{eqb, ltb}
 use lib.ListN.{length, getD, replicate, length-replicate, getD-replicate}
 use Rattle.basis.specs.Test.{_and_, _or_, non}
-use Rattle.basis.proofs.LoopLaws.{and-fails, and-both, or-none, non-holds}
-use Rattle.basis.proofs.BoolLaws.{and-assoc, or-assoc, non-fails, eqb-swap, below-next, amp-and, not-non}
+use Rattle.basis.proofs.BoolLaws.{and-fails, and-both, or-none, non-holds, and-assoc, or-assoc, non-fails, eqb-swap, below-next, amp-and, not-non, by-bool, false-of}
 use Rattle.format.specs.declared.Row.{Row}
 use Rattle.sets.specs.Mask.{slots, mem, full}
 use Rattle.sets.specs.Closure.{taken}
-use Rattle.sets.proofs.BoolLaws.{by-bool, false-of}
 use Rattle.sets.proofs.MaskLaws.{mem-empty, mem-diff, mem-full, full-has, lt-of-members, ext-all}
 use Rattle.sets.proofs.ClosureLaws.{closed-unique}
 use Rattle.cells.specs.Walk.{upTo, picked}
-use Rattle.cells.specs.Cells.{gaining, scatter, placing}
+use Rattle.cells.specs.Cells.{gaining, placing}
 use Rattle.cells.proofs.WalkLaws.{upTo-more, mem-picked}
 use Rattle.cells.proofs.CellsLaws.{gaining-length, gaining-mem, scatter-length, scatter-mem, placing-length}
 use Rattle.tables.specs.Tables.{agentRoom, agentIn, rowIn, pairIn}

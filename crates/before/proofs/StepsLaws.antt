@@ -4,7 +4,7 @@
 --     owns-mem, rows-mem, pairs-mem      what two events make by themselves; what rows and pairs add
 --     steps-mem            from empty masks: stepsIn holds exactly the steps that stepIn tests
 use mathlib.Core.Path.{_≡_, sym, ap, _∙_}
-use mathlib.Core.Bool.{Bool, true, false, cond}
+use mathlib.Core.Bool.{Bool, cond}
 use mathlib.Core.List.{List}
 use Prim.Native.Nat.{ℕ, zero, suc, _%_, _<_, _≤_}
 use native.Mathlib.Nat.{mod-eq-of-lt}
@@ -14,16 +14,14 @@ use borrow.Author.Tests.{lt-ltb, le-ltb}
 use lib.Dec.{eqb, ltb}
 use lib.ListN.{length, getD, replicate, length-replicate, getD-replicate, List·getD-eq-default}
 use Rattle.basis.specs.Test.{_and_, _or_, any, from}
-use Rattle.basis.proofs.LoopLaws.{and-holds, and-fails, or-none}
-use Rattle.basis.proofs.BoolLaws.{and-false, and-true, or-assoc}
+use Rattle.basis.proofs.BoolLaws.{and-holds, and-fails, or-none, and-false, and-true, or-assoc, by-bool}
+use Rattle.basis.proofs.LoopLaws.{any-next}
 use Rattle.sets.specs.Mask.{slots, mem}
-use Rattle.sets.proofs.BoolLaws.{by-bool}
 use Rattle.sets.proofs.MaskLaws.{mem-empty}
-use Rattle.cells.specs.Walk.{upTo, picked}
+use Rattle.cells.specs.Walk.{upTo}
 use Rattle.cells.specs.Cells.{gaining, placing}
 use Rattle.cells.proofs.WalkLaws.{mem-picked}
 use Rattle.cells.proofs.CellsLaws.{gaining-mem, gaining-length, placing-length, placing-at, placing-beyond}
-use Rattle.basis.proofs.FindLaws.{any-next}
 use Rattle.tables.specs.Tables.{agentIn, rowIn, pairIn}
 use Rattle.tables.proofs.TablesLaws.{reader-slot, writer-slot, first-slot, second-slot}
 use Rattle.before.specs.Before.{metIn, laterIn, ownIn, syncIn, rowGains, rowsIn, pairGains, pairsIn, stepsIn, directIn, rowStep, pairStep, stepIn}

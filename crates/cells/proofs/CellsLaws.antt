@@ -16,11 +16,9 @@ use lib.Dec.{eqb, ltb}
 use lib.ListN.{length, getD, set, length-set}
 use lib.Seq.{getD-set-same, getD-set-other, set-out}
 use Rattle.basis.specs.Test.{_and_, _or_}
-use Rattle.basis.proofs.LoopLaws.{and-holds, and-both, or-holds, or-either, or-none, or-second, and-fails}
-use Rattle.basis.proofs.BoolLaws.{or-assoc, and-swap, below-next}
+use Rattle.basis.proofs.BoolLaws.{and-holds, and-both, or-holds, or-either, or-none, or-second, and-fails, or-assoc, and-swap, below-next, by-bool, bool-ext}
 use Rattle.cells.proofs.WalkLaws.{upTo-more}
 use Rattle.sets.specs.Mask.{slots, mem, Has, insert}
-use Rattle.sets.proofs.BoolLaws.{by-bool, bool-ext}
 use Rattle.sets.proofs.MaskLaws.{insert-new, insert-old, insert-cases}
 use Rattle.cells.specs.Walk.{upTo, onlyOf, over}
 use Rattle.cells.specs.Cells.{gaining, gainAt, spread, gainOne, scatter, putAt, placing}

@@ -15,12 +15,11 @@ use native.Mathlib.Decide.{decLt, ℕ-discrete}
 use borrow.Author.Tests.{ltb-true, ltb-false}
 use lib.Dec.{ltb}
 use Rattle.basis.specs.Test.{_and_, _or_, find, from}
-use Rattle.basis.proofs.LoopLaws.{and-holds, and-both, or-holds, or-fails}
+use Rattle.basis.proofs.BoolLaws.{and-holds, and-both, or-holds, or-fails, by-bool, not-both-ways, false-of}
+use Rattle.basis.proofs.FindLaws.{find-at, find-no}
 use Rattle.sets.specs.Mask.{slots, mem, Has, remove, Lowest}
-use Rattle.sets.proofs.BoolLaws.{by-bool, not-both-ways, false-of}
 use Rattle.sets.proofs.MaskLaws.{mem-empty, mem-lt, remove-le, remove-old, remove-cases}
 use Rattle.cells.specs.First.{firstOf, First}
-use Rattle.basis.proofs.FindLaws.{find-at, find-no}
 
 module _ (p : ℕ → Bool) where
   pub first-unique : (n a b : ℕ) → First p n a → First p n b → a ≡ b

@@ -7,7 +7,7 @@
 --     over-picked                               the same by a loop over the members of a set that has all that pass
 use mathlib.Core.Path.{_≡_, refl, sym, ap, _∙_, subst}
 use mathlib.Core.Bool.{Bool, true, false, cond, not, _&&_}
-use mathlib.Core.Logic.{_⊎_, ⊎-elim}
+use mathlib.Core.Logic.{⊎-elim}
 use Prim.Native.Nat.{ℕ, zero, suc, _+_, _-_, _^_, _≤_, _<_}
 use native.Mathlib.Nat.{add-suc}
 use native.Mathlib.Numerals.{add-one}
@@ -16,9 +16,8 @@ use native.Mathlib.Decide.{ℕ-discrete, decLt}
 use borrow.Author.Tests.{eq-eqb, lt-ltb, ltb-true}
 use lib.Dec.{eqb, ltb}
 use Rattle.basis.specs.Test.{_and_}
-use Rattle.basis.proofs.LoopLaws.{and-holds, and-both}
+use Rattle.basis.proofs.BoolLaws.{and-holds, and-both, by-bool, bool-ext, not-both-ways}
 use Rattle.sets.specs.Mask.{slots, mem, Has, insert, remove, Lowest}
-use Rattle.sets.proofs.BoolLaws.{by-bool, bool-ext, not-both-ways}
 use Rattle.sets.proofs.MaskLaws.{mem-empty, mem-lt, mem-remove, remove-old, remove-cases, remove-lt, insert-cases, insert-old, insert-new, lt-of-members, ext-all}
 use Rattle.cells.specs.Walk.{upTo, onlyOf, over, taking, picked}
 

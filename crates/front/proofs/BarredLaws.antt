@@ -12,8 +12,9 @@ use borrow.Author.Tests.{lt-ltb, ltb-false}
 use lib.Dec.{T, eqb, ltb}
 use lib.ListN.{getD, replicate}
 use Rattle.basis.specs.Test.{_and_, _or_, non, any, each, from}
-use Rattle.basis.proofs.TestLaws.{and-elim, and-intro, or-cases, or-left, or-right, same-test}
-use Rattle.basis.proofs.LoopLaws.{T-true, and-holds, and-fails}
+use Rattle.basis.proofs.BoolLaws.{and-elim, and-intro, or-cases, or-left, or-right, same-test, T-true, and-holds, and-fails, by-bool, not-both-ways, and-false}
+use Rattle.basis.proofs.ListLaws.{each-mem}
+use Rattle.basis.proofs.LoopLaws.{any-same, any-each}
 use Rattle.format.specs.declared.Shape.{Shape}
 use Rattle.format.specs.declared.Row.{Row}
 use Rattle.format.specs.Shape.{writes, sc, covers, equal, bothSc}
@@ -21,10 +22,6 @@ use Rattle.format.specs.Event.{Event, shapeAt, writesAt}
 use Rattle.format.specs.Execution.{Execution, event}
 use Rattle.format.proofs.EventLaws.{writesAt-nobody}
 use Rattle.sets.specs.Mask.{slots, mem}
-use Rattle.sets.proofs.BoolLaws.{by-bool, not-both-ways}
-use Rattle.basis.proofs.FindLaws.{any-same, any-each}
-use Rattle.basis.proofs.BoolLaws.{and-false}
-use Rattle.basis.proofs.ListLaws.{each-mem}
 use Rattle.tables.proofs.TablesLaws.{slot-below}
 use Rattle.model.specs.Events.{atRow}
 use Rattle.model.specs.Happens.{rowSyncs}

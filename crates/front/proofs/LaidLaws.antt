@@ -12,9 +12,8 @@ use borrow.Author.Tests.{ltb-true}
 use lib.Dec.{T, leb, ltb}
 use lib.ListN.{length, getD, replicate, length-replicate, getD-replicate}
 use Rattle.basis.specs.Test.{each, from}
-use Rattle.basis.proofs.TestLaws.{from-elim, and-elim}
-use Rattle.basis.proofs.LoopLaws.{T-true, and-both}
-use Rattle.basis.proofs.ListLaws.{getD-mem}
+use Rattle.basis.proofs.BoolLaws.{and-elim, T-true, and-both}
+use Rattle.basis.proofs.ListLaws.{from-elim, getD-mem}
 use Rattle.format.specs.declared.Shape.{Shape}
 use Rattle.format.specs.declared.Row.{Row}
 use Rattle.format.specs.declared.Pair.{Pair}

@@ -16,8 +16,8 @@ use borrow.Author.Tests.{ltb-true, le-leb, lt-ltb, le-ltb}
 use lib.Dec.{T, eqb, leb, ltb, eqb·suc-zero}
 use lib.ListN.{length, getD, replicate, length-replicate}
 use Rattle.basis.specs.Test.{_and_, _or_, non, any, each, from}
-use Rattle.basis.proofs.TestLaws.{and-elim, and-intro, or-cases, or-left, or-right, same-test}
-use Rattle.basis.proofs.LoopLaws.{true-T, T-true, false-T, T-false, and-holds, and-fails, or-none}
+use Rattle.basis.proofs.BoolLaws.{and-elim, and-intro, or-cases, or-left, or-right, same-test, true-T, T-true, false-T, T-false, and-holds, and-fails, or-none, by-bool, and-false}
+use Rattle.basis.proofs.LoopLaws.{any-same, any-each}
 use Rattle.format.specs.declared.Shape.{Shape}
 use Rattle.format.specs.declared.Row.{Row}
 use Rattle.format.specs.declared.Pair.{Pair}
@@ -26,10 +26,7 @@ use Rattle.format.specs.Event.{Access, Event, isInit, lookup, accessAt, shapeAt
 use Rattle.format.specs.Execution.{Execution, event}
 use Rattle.sets.specs.Mask.{slots, mem}
 use Rattle.sets.specs.Closure.{taken, Closed}
-use Rattle.sets.proofs.BoolLaws.{by-bool}
 use Rattle.sets.proofs.MaskLaws.{mem-empty, ext-all}
-use Rattle.basis.proofs.FindLaws.{any-same, any-each}
-use Rattle.basis.proofs.BoolLaws.{and-false}
 use Rattle.model.specs.Events.{anyTwo, atRow}
 use Rattle.model.specs.Happens.{agentOrder, rowSyncs, synchronises, initFirst, step, Tests}
 use Rattle.model.proofs.ShapeLaws.{both-cover}

@@ -12,9 +12,8 @@ use borrow.Author.Tests.{ltb-true, ltb-false}
 use lib.Dec.{T, eqb, ltb}
 use lib.ListN.{length, getD}
 use Rattle.basis.specs.Test.{_and_, non, keep, find, mapped, each, across, from}
-use Rattle.basis.proofs.TestLaws.{from-elim}
-use Rattle.basis.proofs.LoopLaws.{true-T, and-both}
-use Rattle.basis.proofs.BoolLaws.{amp-and, and-swap}
+use Rattle.basis.proofs.BoolLaws.{true-T, and-both, amp-and, and-swap}
+use Rattle.basis.proofs.ListLaws.{from-elim}
 use Rattle.basis.proofs.FindLaws.{find-same, find-at, find-no, find-firsts}
 use Rattle.format.specs.declared.Row.{Row}
 use Rattle.format.specs.Shape.{covers, writes}

@@ -12,17 +12,15 @@ use borrow.Author.Tests.{ltb-true, ltb-false}
 use lib.Dec.{T, ltb}
 use lib.ListN.{length}
 use Rattle.basis.specs.Test.{_and_, _or_, non, find, across, from}
-use Rattle.basis.proofs.TestLaws.{and-elim, or-cases, or-left, or-right, same-test}
-use Rattle.basis.proofs.LoopLaws.{true-T, T-true}
+use Rattle.basis.proofs.BoolLaws.{and-elim, or-cases, or-left, or-right, same-test, true-T, T-true, by-bool, not-both-ways}
+use Rattle.basis.proofs.FindLaws.{least-pair, no-pair}
 use Rattle.format.specs.declared.Shape.{Shape}
 use Rattle.format.specs.Shape.{covers, overlap}
 use Rattle.format.specs.Event.{Access, shapeAt}
 use Rattle.format.specs.Execution.{Execution, event}
 use Rattle.sets.specs.Mask.{slots}
-use Rattle.sets.proofs.BoolLaws.{by-bool, not-both-ways}
 use Rattle.cells.specs.First.{firstOf}
 use Rattle.cells.proofs.FirstLaws.{first-of}
-use Rattle.basis.proofs.FindLaws.{least-pair, no-pair}
 use Rattle.model.specs.Events.{numbers, anyTwo}
 use Rattle.model.specs.Unsettled.{clash, unsettled, unsettledPair}
 use Rattle.model.specs.Judged.{settledOf}

@@ -11,8 +11,8 @@ use native.Mathlib.Nat.{mod-eq-of-lt}
 use native.Mathlib.Omega.{arith}
 use native.Mathlib.Decide.{ℕ-discrete}
 use lib.ListN.{length, getD, replicate, length-replicate, getD-replicate}
+use Rattle.basis.proofs.BoolLaws.{by-bool, not-both-ways}
 use Rattle.sets.specs.Mask.{slots, mem, Has}
-use Rattle.sets.proofs.BoolLaws.{by-bool, not-both-ways}
 use Rattle.sets.proofs.MaskLaws.{mem-empty}
 use Rattle.cells.specs.Walk.{upTo}
 use Rattle.cells.proofs.CellsLaws.{gaining-back, gaining-keep, gaining-new}

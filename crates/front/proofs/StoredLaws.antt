@@ -11,15 +11,15 @@ use Prim.Native.Nat.{ℕ, zero, suc, _+_, _*_, _<_, _≤_}
 use native.Mathlib.Omega.{arith}
 use lib.Dec.{T, eqb, eqb→eq}
 use Rattle.basis.specs.Test.{_and_, _or_, non, any, number, each, from}
-use Rattle.basis.proofs.TestLaws.{and-elim, any-intro, decide, non-intro, from-mem}
-use Rattle.basis.proofs.LoopLaws.{T-true, false-T}
+use Rattle.basis.proofs.BoolLaws.{and-elim, decide, non-intro, T-true, false-T, by-bool}
+use Rattle.basis.proofs.ListLaws.{from-mem}
+use Rattle.basis.proofs.LoopLaws.{any-intro}
 use Rattle.format.specs.declared.Shape.{Shape}
 use Rattle.format.specs.declared.Row.{Row}
 use Rattle.format.specs.Shape.{reads, writes, covers, overlap}
 use Rattle.format.specs.Event.{Access, lookup, accessAt, shapeAt, readsAt, writesAt, saw, wrote, isInit}
 use Rattle.format.specs.Execution.{Execution, eventNo, event, inits}
 use Rattle.format.proofs.EventLaws.{readsAt-nobody}
-use Rattle.sets.proofs.BoolLaws.{by-bool}
 use Rattle.model.specs.Events.{anyTwo}
 use Rattle.model.proofs.ShapeLaws.{nothing-covers}
 use Rattle.model.proofs.EventsLaws.{access-inside, two-elim}

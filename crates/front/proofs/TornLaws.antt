@@ -14,19 +14,18 @@ use borrow.Author.Tests.{eq-eqb, eqb-true, lt-ltb, ltb-true, ltb-false}
 use lib.Dec.{T, eqb, ltb}
 use lib.ListN.{getD, replicate}
 use Rattle.basis.specs.Test.{_and_, _or_, any, find, mapped, each, across, from}
-use Rattle.basis.proofs.TestLaws.{and-elim, and-intro, any-elim, any-intro, from-mem, from-elim}
-use Rattle.basis.proofs.LoopLaws.{true-T, T-true, T-false, and-holds, and-both, or-holds, or-either, or-second}
+use Rattle.basis.proofs.BoolLaws.{and-elim, and-intro, true-T, T-true, T-false, and-holds, and-both, or-holds, or-either, or-second, by-bool, not-both-ways}
+use Rattle.basis.proofs.ListLaws.{from-mem, from-elim, each-elim, each-mem, each-id}
+use Rattle.basis.proofs.LoopLaws.{any-elim, any-intro}
+use Rattle.basis.proofs.FindLaws.{least-pair, no-pair, find-firsts}
 use Rattle.format.specs.declared.Shape.{Shape}
 use Rattle.format.specs.declared.Row.{Row}
 use Rattle.format.specs.Shape.{covers, equal, tearFree}
 use Rattle.format.specs.Execution.{Execution}
 use Rattle.answer.specs.declared.Names.the-variants.{Torn}
 use Rattle.sets.specs.Mask.{slots, mem, Has}
-use Rattle.sets.proofs.BoolLaws.{by-bool, not-both-ways}
 use Rattle.cells.specs.First.{firstOf}
 use Rattle.cells.proofs.FirstLaws.{first-of}
-use Rattle.basis.proofs.FindLaws.{least-pair, no-pair, find-firsts}
-use Rattle.basis.proofs.ListLaws.{each-elim, each-mem, each-id}
 use Rattle.model.specs.Events.{numbers, atRow, ofReader}
 use Rattle.model.specs.Rules.{faulty, untorn, untornFrom, breaks25, fault25}
 use Rattle.model.proofs.Sound.{Sound}

@@ -9,7 +9,7 @@ use Prim.Native.Nat.{ℕ, _-_, _*_, _<_, _≤_, min}
 use native.Mathlib.Omega.{arith}
 use lib.Dec.{T}
 use lib.ListN.{length, take, replicate}
-use Rattle.basis.proofs.LoopLaws.{true-T, T-true}
+use Rattle.basis.proofs.BoolLaws.{true-T, T-true}
 use Rattle.format.specs.Event.{writesAt}
 use Rattle.format.specs.Execution.{Execution, others}
 use Rattle.format.proofs.EventLaws.{writesAt-nobody}

@@ -14,7 +14,9 @@ use native.Mathlib.Decide.{decLt}
 use lib.Dec.{T}
 use lib.ListN.{length, List·getD-eq-default}
 use Rattle.basis.specs.Test.{any}
-use Rattle.basis.proofs.TestLaws.{and-elim, any-elim, any-intro, from-mem, from-elim}
+use Rattle.basis.proofs.BoolLaws.{and-elim}
+use Rattle.basis.proofs.ListLaws.{from-mem, from-elim}
+use Rattle.basis.proofs.LoopLaws.{any-elim, any-intro}
 use Rattle.format.specs.declared.Shape.{Shape}
 use Rattle.format.specs.Shape.{reads, writes, covers}
 use Rattle.format.specs.Event.{Access, Event, nobody, lookup, accessAt, shapeAt, readsAt, writesAt}

@@ -12,7 +12,7 @@ use native.Mathlib.Omega.{arith}
 use native.Mathlib.Decide.{decLt}
 use lib.Dec.{T, ltb, ltb→lt}
 use lib.ListN.{length}
-use Rattle.basis.proofs.TestLaws.{and-elim}
+use Rattle.basis.proofs.BoolLaws.{and-elim}
 use Rattle.basis.proofs.ListLaws.{getD-mem}
 use Rattle.format.specs.declared.Shape.{Shape}
 use Rattle.format.specs.Limits.{maxBytes, maxMemory, maxEvents}

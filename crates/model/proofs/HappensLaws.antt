@@ -16,8 +16,8 @@ use lib.Dec.{T, eqb, ltb→lt, eqb→eq, eqb-refl}
 use lib.ListN.{length, getD}
 use lib.Seq.{getD-drop}
 use Rattle.basis.specs.Test.{_and_, _or_, any}
-use Rattle.basis.proofs.TestLaws.{and-elim, and-intro, or-cases, or-left, or-right, non-elim, any-elim, any-intro, same-test}
-use Rattle.basis.proofs.LoopLaws.{true-T, T-true, false-T}
+use Rattle.basis.proofs.BoolLaws.{and-elim, and-intro, or-cases, or-left, or-right, non-elim, same-test, true-T, T-true, false-T}
+use Rattle.basis.proofs.LoopLaws.{any-elim, any-intro}
 use Rattle.format.specs.declared.Row.{Row}
 use Rattle.format.specs.declared.Pair.{Pair}
 use Rattle.format.specs.declared.Shape.{Shape}

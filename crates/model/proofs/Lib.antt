@@ -23,4 +23,3 @@ pub mod Demands
 pub mod Single
 pub mod Litmus
 pub mod Fewer
-pub mod AcrossLaws

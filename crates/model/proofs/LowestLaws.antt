@@ -12,9 +12,10 @@ use native.Mathlib.Decide.{decLt, ℕ-discrete}
 use lib.Dec.{T, eqb, ltb, eqb→eq, ltb→lt}
 use lib.ListN.{length, getD}
 use Rattle.basis.specs.Test.{_and_, _or_, find, any, across}
-use Rattle.basis.proofs.TestLaws.{and-elim, or-cases, any-elim, find-none, across-left, across-mem}
-use Rattle.basis.proofs.ListLaws.{mem-getD, getD-mem}
-use Rattle.basis.proofs.SortedLaws.{Sorted, Then, find-first}
+use Rattle.basis.proofs.BoolLaws.{and-elim, or-cases}
+use Rattle.basis.proofs.ListLaws.{across-left, across-mem, mem-getD, getD-mem}
+use Rattle.basis.proofs.LoopLaws.{any-elim}
+use Rattle.basis.proofs.FindLaws.{find-none, Sorted, Then, find-first}
 use Rattle.format.specs.declared.Row.{Row}
 use Rattle.format.specs.Event.{writesAt}
 use Rattle.format.specs.Execution.{Execution, event, rowBelow, noRow}

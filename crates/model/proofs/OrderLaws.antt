@@ -13,7 +13,7 @@ use native.Mathlib.Omega.{arith}
 use lib.Dec.{T}
 use lib.ListN.{length}
 use Rattle.basis.specs.Test.{_or_}
-use Rattle.basis.proofs.TestLaws.{and-elim, or-cases}
+use Rattle.basis.proofs.BoolLaws.{and-elim, or-cases}
 use Rattle.basis.proofs.LoopLaws.{number-both}
 use Rattle.format.specs.declared.Row.{Row}
 use Rattle.format.specs.Event.{isInit}

@@ -14,8 +14,9 @@ use native.Mathlib.Decide.{ℕ-discrete, decLt}
 use lib.Dec.{T, eqb, eqb→eq, eqb-refl}
 use lib.ListN.{length}
 use Rattle.basis.specs.Test.{_and_, non, any, _else_, mapped, across, from}
-use Rattle.basis.proofs.TestLaws.{and-elim, and-intro, or-cases, or-left, or-right, non-elim, non-intro, any-elim, any-intro, across-left, across-mem, from-mem, from-elim}
-use Rattle.basis.proofs.ListLaws.{from-length}
+use Rattle.basis.proofs.BoolLaws.{and-elim, and-intro, or-cases, or-left, or-right, non-elim, non-intro}
+use Rattle.basis.proofs.ListLaws.{across-left, across-mem, from-mem, from-elim, from-length}
+use Rattle.basis.proofs.LoopLaws.{any-elim, any-intro}
 use Rattle.format.specs.declared.Row.{Row}
 use Rattle.format.specs.Execution.{Execution, inits, others}
 use Rattle.orders.specs.Problem.{Problem}

@@ -9,7 +9,9 @@ use mathlib.Core.Option.{none}
 use Prim.Native.Nat.{ℕ}
 use lib.Dec.{T, eqb, eqb→eq}
 use Rattle.basis.specs.Test.{_or_, across}
-use Rattle.basis.proofs.TestLaws.{decide, and-intro, or-left, or-right, non-intro, find-none, across-mem}
+use Rattle.basis.proofs.BoolLaws.{decide, and-intro, or-left, or-right, non-intro}
+use Rattle.basis.proofs.ListLaws.{across-mem}
+use Rattle.basis.proofs.FindLaws.{find-none}
 use Rattle.format.specs.declared.Row.{Row}
 use Rattle.format.specs.Shape.{writes, covers, bothSc}
 use Rattle.format.specs.Event.{shapeAt, writesAt, saw, wrote}

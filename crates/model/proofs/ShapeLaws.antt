@@ -6,7 +6,7 @@ use mathlib.Core.Path.{subst}
 use Prim.Native.Nat.{ℕ, _+_, _≤_, _<_}
 use native.Mathlib.Omega.{arith}
 use lib.Dec.{T, eqb, ltb, leb, leb→le, ltb→lt, lt→ltb, eqb→eq, eqb-refl}
-use Rattle.basis.proofs.TestLaws.{and-elim, and-intro}
+use Rattle.basis.proofs.BoolLaws.{and-elim, and-intro}
 use Rattle.format.specs.declared.Shape.{Shape}
 use Rattle.format.specs.Shape.{sc, covers, overlap, equal, bothSc, noShape}
 

@@ -14,8 +14,8 @@ use native.Mathlib.Decide.{decLt}
 use lib.Dec.{T, eqb, ltb, eqb→eq, eqb-refl}
 use lib.ListN.{length}
 use Rattle.basis.specs.Test.{_and_, _or_, non, any}
-use Rattle.basis.proofs.TestLaws.{and-elim, and-intro, or-cases, or-right, any-elim, any-intro}
-use Rattle.basis.proofs.LoopLaws.{or-none, T-true}
+use Rattle.basis.proofs.BoolLaws.{and-elim, and-intro, or-cases, or-right, or-none, T-true}
+use Rattle.basis.proofs.LoopLaws.{any-elim, any-intro}
 use Rattle.format.specs.declared.Shape.{Shape}
 use Rattle.format.specs.declared.Row.{Row}
 use Rattle.format.specs.declared.Pair.{Pair}

@@ -9,9 +9,9 @@ use native.Mathlib.Decide.{ℕ-discrete, decLt}
 use lib.Dec.{T, eqb, eqb→eq}
 use lib.ListN.{length, getD}
 use Rattle.basis.specs.Test.{number}
-use Rattle.basis.proofs.TestLaws.{any-intro, any-elim}
-use Rattle.basis.proofs.LoopLaws.{true-T}
+use Rattle.basis.proofs.BoolLaws.{true-T}
 use Rattle.basis.proofs.ListLaws.{mem-getD, getD-mem}
+use Rattle.basis.proofs.LoopLaws.{any-intro, any-elim}
 use Rattle.format.specs.declared.Row.{Row}
 use Rattle.format.specs.declared.Pair.{Pair}
 use Rattle.format.specs.Shape.{marks, overlap}

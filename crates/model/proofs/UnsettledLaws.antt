@@ -12,7 +12,9 @@ use native.Mathlib.Decide.{decLt}
 use lib.Dec.{T, lt→ltb}
 use lib.ListN.{length}
 use Rattle.basis.specs.Test.{_or_, across}
-use Rattle.basis.proofs.TestLaws.{decide, and-elim, and-intro, or-cases, or-left, or-right, non-intro, find-none, none-find, across-mem}
+use Rattle.basis.proofs.BoolLaws.{decide, and-elim, and-intro, or-cases, or-left, or-right, non-intro}
+use Rattle.basis.proofs.ListLaws.{across-mem}
+use Rattle.basis.proofs.FindLaws.{find-none, none-find}
 use Rattle.format.specs.Shape.{writes, covers, bothSc}
 use Rattle.format.specs.Event.{shapeAt}
 use Rattle.format.specs.Execution.{Execution, event}

@@ -5,7 +5,6 @@
 use mathlib.Core.Path.{_≡_}
 use mathlib.Core.List.{List}
 use Prim.Native.Nat.{ℕ}
-use Rattle.answer.specs.declared.Answer.{Answer}
 use Rattle.answer.specs.Read.{answerIn}
 use Rattle.model.specs.Judged.{Judged}
 use Rattle.plimdrong.specs.Exported.{Exported}

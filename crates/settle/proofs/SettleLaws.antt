@@ -15,12 +15,10 @@ use lib.Bits.{bitAnd}
 use lib.Dec.{ltb}
 use lib.ListN.{getD}
 use Rattle.basis.specs.Test.{_and_, _or_, non}
-use Rattle.basis.proofs.LoopLaws.{and-holds, and-fails, and-both, non-holds}
-use Rattle.basis.proofs.BoolLaws.{and-assoc, non-fails, amp-and, not-non}
+use Rattle.basis.proofs.BoolLaws.{and-holds, and-fails, and-both, non-holds, and-assoc, non-fails, amp-and, not-non, false-of}
 use Rattle.format.specs.declared.Shape.{Shape}
 use Rattle.format.specs.Shape.{writes, overlap, bothSc}
 use Rattle.sets.specs.Mask.{slots, mem, full, Lowest}
-use Rattle.sets.proofs.BoolLaws.{false-of}
 use Rattle.sets.proofs.MaskLaws.{mem-diff, mem-full, full-has, lt-of-members, ext-all}
 use Rattle.answer.specs.declared.Settled.the-variants.{Orderly, Unsettled}
 use Rattle.cells.specs.First.{firstOf}

@@ -1,6 +1,6 @@
 -- Two results that `tell`'s contract allows for the same sheet and buffers are equal: the length and all buffers. Assumes nothing.
 --     told-unique
-use mathlib.Core.Path.{_≡_, sym, ap, _∙_, subst}
+use mathlib.Core.Path.{_≡_, subst}
 use mathlib.Core.List.{List}
 use Prim.Native.Nat.{ℕ}
 use Rattle.answer.specs.declared.Answer.{Answer}

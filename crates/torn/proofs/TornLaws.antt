@@ -10,12 +10,12 @@ use native.Mathlib.Nat.{mod-eq-of-lt}
 use native.Mathlib.Omega.{arith}
 use borrow.Author.Tests.{lt-ltb, le-ltb}
 use lib.ListN.{length}
+use Rattle.basis.proofs.BoolLaws.{by-bool}
 use Rattle.format.specs.declared.Row.{Row}
 use Rattle.answer.specs.declared.Names.the-variants.{Torn}
 use Rattle.answer.specs.declared.Rule.the-variants.{Kept, Breach}
 use Rattle.answer.proofs.RulesLaws.{named-yes, named-no}
 use Rattle.sets.specs.Mask.{slots}
-use Rattle.sets.proofs.BoolLaws.{by-bool}
 use Rattle.cells.specs.Walk.{upTo}
 use Rattle.cells.specs.Cells.{gaining}
 use Rattle.cells.specs.First.{firstOf}

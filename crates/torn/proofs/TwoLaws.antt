@@ -9,11 +9,9 @@ use native.Mathlib.Omega.{arith}
 use native.Mathlib.Nat.{mod-eq-of-lt}
 use native.Mathlib.Decide.{ℕ-discrete, decLt}
 use borrow.Author.Tests.{lt-ltb, ltb-true}
-use lib.Dec.{eqb, ltb}
-use Rattle.basis.specs.Test.{_and_}
-use Rattle.basis.proofs.LoopLaws.{and-holds, and-both}
+use lib.Dec.{ltb}
+use Rattle.basis.proofs.BoolLaws.{and-holds, and-both, not-both-ways, false-of, eqb-self}
 use Rattle.sets.specs.Mask.{slots, mem, Has, remove, Lowest}
-use Rattle.sets.proofs.BoolLaws.{not-both-ways, false-of, eqb-self}
 use Rattle.sets.proofs.MaskLaws.{mem-remove, mem-empty, mem-lt, remove-le, remove-old, remove-cases}
 use Rattle.cells.specs.First.{firstOf}
 use Rattle.cells.proofs.FirstLaws.{first-is}

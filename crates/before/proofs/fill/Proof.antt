@@ -1,11 +1,10 @@
 -- `before::fill` meets its contract, call by call. Assumes nothing.
 use mathlib.Core.Path.{_≡_, ap, _∙_, subst}
 use mathlib.Core.List.{List}
-use Prim.Native.Nat.{ℕ, _-_, min}
+use Prim.Native.Nat.{ℕ, min}
 use native.Mathlib.Omega.{arith}
 use borrow.Author.Needs.{needs}
 use denote.Ref.{now}
-use lib.ListN.{length}
 use Rattle.sets.specs.Mask.{slots}
 use Rattle.sets.specs.Closure.{taken, Closed}
 use Rattle.tables.specs.Tables.{rowRoom, pairRoom}

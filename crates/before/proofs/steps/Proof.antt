@@ -1,9 +1,8 @@
 -- `before::steps` meets its contract, call by call. Assumes nothing.
 use mathlib.Core.Path.{ap, _∙_}
-use Prim.Native.Nat.{_-_, min}
+use Prim.Native.Nat.{min}
 use borrow.Author.Needs.{needs}
 use denote.Ref.{now}
-use lib.ListN.{length}
 use Rattle.tables.specs.Tables.{rowRoom, pairRoom}
 use Rattle.before.specs.Before.{rowsIn, pairsIn, stepsIn}
 use Rattle.before.proofs.steps.Statement.{statement}

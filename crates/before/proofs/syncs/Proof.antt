@@ -1,9 +1,9 @@
 -- `before::syncs` meets its contract, by the mode of the writer. Assumes nothing.
 use mathlib.Core.Path.{sym, ap, _∙_}
-use Prim.Native.Nat.{_-_, _%_}
+use Prim.Native.Nat.{_%_}
 use borrow.Author.Tests.{ne-eqb}
 use denote.Ref.{now}
-use Rattle.basis.proofs.LoopLaws.{and-fails}
+use Rattle.basis.proofs.BoolLaws.{and-fails}
 use Rattle.format.specs.Shape.{sc, bothSc}
 use Rattle.sets.specs.Mask.{slots}
 use Rattle.tables.specs.Tables.{atIn}

@@ -1,5 +1,5 @@
 -- `torn::named` meets its contract, by the test. Assumes nothing.
-use Prim.Native.Nat.{_-_, _%_, min}
+use Prim.Native.Nat.{_%_, min}
 use native.Mathlib.Omega.{arith}
 use borrow.Author.Needs.{needs}
 use denote.Ref.{now}

@@ -1,6 +1,6 @@
 -- `torn::pair` meets its contract: the first of two tests together. Assumes nothing.
 use mathlib.Core.Path.{ap, _∙_}
-use Prim.Native.Nat.{ℕ, _+_, _-_, _*_, _%_, min}
+use Prim.Native.Nat.{ℕ, _+_, _*_, _%_, min}
 use borrow.Author.Needs.{needs}
 use denote.Ref.{now}
 use lib.ListN.{getD}

@@ -1,6 +1,6 @@
 -- `torn::untorn` meets its contract, test by test. Assumes nothing.
-use mathlib.Core.Path.{_≡_, ap}
-use Prim.Native.Nat.{_-_, _%_}
+use mathlib.Core.Path.{_≡_}
+use Prim.Native.Nat.{_%_}
 use native.Mathlib.Nat.{mod-eq-of-lt}
 use native.Mathlib.Omega.{arith}
 use borrow.Author.Needs.{needs}

@@ -16,7 +16,7 @@ use Rattle.basis.proofs.BoolLaws.{or-either}
 use Rattle.format.specs.declared.Head.{Head}
 use Rattle.format.specs.declared.Shape.{Shape}
 use Rattle.format.specs.Shape.{reads, writes, covers}
-use Rattle.format.specs.Event.{Access, Event, saw, wrote}
+use Rattle.format.specs.Event.{Access, saw, wrote}
 use Rattle.format.specs.Field.{fieldBytes, lengthAt, valueAt}
 use Rattle.format.specs.Layout.{eventBytes, shapeOf, seenOf, writtenOf, eventOf}
 use Rattle.format.proofs.EventLaws.{one}

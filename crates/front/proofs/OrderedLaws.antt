@@ -15,7 +15,7 @@ use native.Mathlib.Decide.{decLt}
 use borrow.Author.Tests.{ltb-true, le-leb, lt-ltb, le-ltb}
 use lib.Dec.{T, eqb, leb, ltb, eqb·suc-zero}
 use lib.ListN.{length, getD, replicate, length-replicate}
-use Rattle.basis.specs.Test.{_and_, _or_, non, any, each, from}
+use Rattle.basis.specs.Test.{_and_, _or_, non, any, from}
 use Rattle.basis.proofs.BoolLaws.{and-elim, and-intro, or-cases, or-left, or-right, same-test, true-T, T-true, false-T, T-false, and-holds, and-fails, or-none, by-bool, and-false}
 use Rattle.basis.proofs.LoopLaws.{any-same, any-each}
 use Rattle.format.specs.declared.Shape.{Shape}
@@ -24,12 +24,12 @@ use Rattle.format.specs.declared.Pair.{Pair}
 use Rattle.format.specs.Shape.{covers, overlap, bothSc}
 use Rattle.format.specs.Event.{Access, Event, isInit, lookup, accessAt, shapeAt}
 use Rattle.format.specs.Execution.{Execution, event}
+use Rattle.format.proofs.ShapeLaws.{both-cover}
 use Rattle.sets.specs.Mask.{slots, mem}
 use Rattle.sets.specs.Closure.{taken, Closed}
 use Rattle.sets.proofs.MaskLaws.{mem-empty, ext-all}
 use Rattle.model.specs.Events.{anyTwo, atRow}
 use Rattle.model.specs.Happens.{agentOrder, rowSyncs, synchronises, initFirst, step, Tests}
-use Rattle.model.proofs.ShapeLaws.{both-cover}
 use Rattle.model.proofs.EventsLaws.{two-elim, two-at}
 use Rattle.model.proofs.Sound.{Sound}
 use Rattle.model.proofs.HappensLaws.{step-inside, happens-inside, closed-tests}

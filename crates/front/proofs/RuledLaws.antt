@@ -20,6 +20,7 @@ use Rattle.format.specs.Shape.{covers, writes}
 use Rattle.format.specs.Event.{writesAt, wrote}
 use Rattle.format.specs.Execution.{Execution, event}
 use Rattle.format.proofs.EventLaws.{writesAt-nobody}
+use Rattle.format.proofs.ExecutionLaws.{event-inside}
 use Rattle.answer.specs.declared.Names.{Names}
 use Rattle.answer.specs.declared.Names.the-variants.{Row as OfRow, Event as OfEvent, Between}
 use Rattle.answer.specs.declared.Rule.the-variants.{Kept, Breach}
@@ -30,7 +31,6 @@ use Rattle.cells.specs.First.{firstOf, First}
 use Rattle.cells.proofs.FirstLaws.{first-of, first-find}
 use Rattle.model.specs.Events.{numbers}
 use Rattle.model.specs.Rules.{Fault, faulty, breaks21, breaks22, breaks23, breaks24, fault21, fault22, fault23, fault24}
-use Rattle.model.proofs.EventsLaws.{event-inside}
 use Rattle.tables.specs.Tables.{writesIn, rowIn}
 use Rattle.tables.proofs.TablesLaws.{reader-slot, writer-slot}
 use Rattle.rules.specs.Rules.{unlikeIn, cyclicIn, turnedIn, betweenIn, overIn, rule21In, rule22In, rule23In, rule24In}

@@ -4,9 +4,9 @@
 --     each-of       what a computed test says of each number
 --     met           the premise holds
 use mathlib.Core.Path.{_≡_, refl, sym, ap, _∙_, subst}
-use mathlib.Core.Bool.{Bool, true, false}
+use mathlib.Core.Bool.{Bool, false}
 use mathlib.Core.Logic.{_⊎_, inl, inr, ⊎-elim}
-use mathlib.Core.List.{List, [], _∷_, List·Memᴰ, List·Memᴰ·head, List·Memᴰ·tail, List·Memᴰ·not-nil}
+use mathlib.Core.List.{[], _∷_, List·Memᴰ, List·Memᴰ·head, List·Memᴰ·tail, List·Memᴰ·not-nil}
 use Prim.Native.Nat.{ℕ, zero, suc, _+_, _*_, _<_, _≤_}
 use native.Mathlib.Omega.{arith}
 use lib.Dec.{T, eqb, eqb→eq}
@@ -20,9 +20,10 @@ use Rattle.format.specs.Shape.{reads, writes, covers, overlap}
 use Rattle.format.specs.Event.{Access, lookup, accessAt, shapeAt, readsAt, writesAt, saw, wrote, isInit}
 use Rattle.format.specs.Execution.{Execution, eventNo, event, inits}
 use Rattle.format.proofs.EventLaws.{readsAt-nobody}
+use Rattle.format.proofs.EventLaws.{covers-nothing}
+use Rattle.format.proofs.ExecutionLaws.{access-inside}
 use Rattle.model.specs.Events.{anyTwo}
-use Rattle.model.proofs.ShapeLaws.{nothing-covers}
-use Rattle.model.proofs.EventsLaws.{access-inside, two-elim}
+use Rattle.model.proofs.EventsLaws.{two-elim}
 use Rattle.model.proofs.Sound.{Sound}
 use Rattle.tables.specs.Tables.{agentIn, shapeIn, rowIn, seenIn, wroteIn, pairIn}
 use Rattle.front.specs.Tabled.{Double, Slotted, Agents}
@@ -38,7 +39,7 @@ reads-one p q agent n t =
     (λ c. inl (and-elim _ _ (subst (λ (a : Access). T (covers (a .shape) n and reads (a .shape))) (lookup-hit p (q ∷ []) n c) t)))
     (λ c. by-bool (covers (q .shape) n)
     (λ d. inr (and-elim _ _ (subst (λ (a : Access). T (covers (a .shape) n and reads (a .shape))) (lookup-miss p (q ∷ []) n c ∙ lookup-hit q [] n d) t)))
-    (λ d. absurd (nothing-covers n (and-elim _ _ (subst (λ (a : Access). T (covers (a .shape) n and reads (a .shape))) (lookup-miss p (q ∷ []) n c ∙ lookup-miss q [] n d) t) .0))))
+    (λ d. absurd (false-T _ (covers-nothing n) (and-elim _ _ (subst (λ (a : Access). T (covers (a .shape) n and reads (a .shape))) (lookup-miss p (q ∷ []) n c ∙ lookup-miss q [] n d) t) .0))))
 
 -- a range of one byte
 byte-is : (a : Shape) (k n : ℕ) → a .start ≡ k → a .width ≡ 1 → T (covers a n) → k ≡ n

@@ -16,15 +16,14 @@ use native.Mathlib.Decide.{decLt}
 use borrow.Author.Tests.{leb-true, ltb-true}
 use lib.Dec.{leb, ltb}
 use lib.ListN.{length}
-use Rattle.basis.specs.Test.{_and_}
 use Rattle.basis.proofs.BoolLaws.{T-true, and-both, by-bool, not-both-ways, false-of}
 use Rattle.format.specs.declared.Shape.{Shape}
 use Rattle.format.specs.Shape.{noShape, covers}
 use Rattle.format.specs.Event.{Access, Event, shapeAt, accessAt, lookup}
 use Rattle.format.specs.Execution.{Execution, event}
 use Rattle.format.proofs.EventLaws.{one, covers-nothing}
+use Rattle.format.proofs.ExecutionLaws.{event-out, access-inside}
 use Rattle.sets.specs.Mask.{slots}
-use Rattle.model.proofs.EventsLaws.{event-out, access-inside}
 use Rattle.tables.specs.Tables.{agentIn, shapeIn, slotIn, atIn}
 use Rattle.tables.proofs.TablesLaws.{slot-first, slot-second, at-hit, at-miss}
 use Rattle.front.specs.Tabled.{Single, Double, Slotted, Tabled, Owned}

@@ -3,7 +3,7 @@
 --     torn-forth, torn-back     a torn read by the model is two sources of one access, and the other way round
 --     ruled25         25 finds what the model finds
 use mathlib.Core.Path.{_≡_, refl, sym, ap, _∙_, subst}
-use mathlib.Core.Bool.{true, false, cond}
+use mathlib.Core.Bool.{true, false}
 use mathlib.Core.Logic.{_⊎_, inl, inr, ⊎-elim}
 use mathlib.Core.List.{List, List·Memᴰ}
 use mathlib.Core.Option.{none, some}
@@ -13,7 +13,7 @@ use native.Mathlib.Omega.{arith}
 use borrow.Author.Tests.{eq-eqb, eqb-true, lt-ltb, ltb-true, ltb-false}
 use lib.Dec.{T, eqb, ltb}
 use lib.ListN.{getD, replicate}
-use Rattle.basis.specs.Test.{_and_, _or_, any, find, mapped, each, across, from}
+use Rattle.basis.specs.Test.{_and_, find, mapped, across, from}
 use Rattle.basis.proofs.BoolLaws.{and-elim, and-intro, true-T, T-true, T-false, and-holds, and-both, or-holds, or-either, or-second, by-bool, not-both-ways}
 use Rattle.basis.proofs.ListLaws.{from-mem, from-elim, each-elim, each-mem, each-id}
 use Rattle.basis.proofs.LoopLaws.{any-elim, any-intro}
@@ -22,6 +22,8 @@ use Rattle.format.specs.declared.Shape.{Shape}
 use Rattle.format.specs.declared.Row.{Row}
 use Rattle.format.specs.Shape.{covers, equal, tearFree}
 use Rattle.format.specs.Execution.{Execution}
+use Rattle.format.proofs.ShapeLaws.{equal-sym, equal-self, covers-equal}
+use Rattle.format.proofs.ExecutionLaws.{reads-covers, writes-covers}
 use Rattle.answer.specs.declared.Names.the-variants.{Torn}
 use Rattle.sets.specs.Mask.{slots, mem, Has}
 use Rattle.cells.specs.First.{firstOf}
@@ -29,8 +31,6 @@ use Rattle.cells.proofs.FirstLaws.{first-of}
 use Rattle.model.specs.Events.{numbers, atRow, ofReader}
 use Rattle.model.specs.Rules.{faulty, untorn, untornFrom, breaks25, fault25}
 use Rattle.model.proofs.Sound.{Sound}
-use Rattle.model.proofs.ShapeLaws.{equal-sym, equal-self, covers-equal}
-use Rattle.model.proofs.EventsLaws.{reads-covers, writes-covers}
 use Rattle.model.proofs.HappensLaws.{reader-inside, writer-inside}
 use Rattle.tables.specs.Tables.{accesses, shapeIn, slotIn, rowIn}
 use Rattle.tables.proofs.TablesLaws.{slot-first, slot-second, slot-lt}

@@ -13,6 +13,7 @@ use Rattle.basis.proofs.BoolLaws.{true-T, T-true}
 use Rattle.format.specs.Event.{writesAt}
 use Rattle.format.specs.Execution.{Execution, others}
 use Rattle.format.proofs.EventLaws.{writesAt-nobody}
+use Rattle.format.proofs.ExecutionLaws.{event-inside}
 use Rattle.sheet.proofs.PromiseLaws.{promise}
 use Rattle.sets.specs.Mask.{slots}
 use Rattle.sets.specs.Table.{bytesFor, cleared}
@@ -31,7 +32,6 @@ use Rattle.model.specs.Order.{problem}
 use Rattle.model.specs.Rules.{faulty}
 use Rattle.model.specs.Judged.{needed, JudgedBroken, JudgedConsistent}
 use Rattle.model.proofs.Sound.{Sound, sound}
-use Rattle.model.proofs.EventsLaws.{event-inside}
 use Rattle.model.proofs.HappensLaws.{happens-inside, writer-inside}
 use Rattle.model.proofs.BarLaws.{bar-elim, row-bars}
 use Rattle.model.proofs.OrderLaws.{inits-others, begins}

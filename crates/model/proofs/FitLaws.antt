@@ -10,15 +10,16 @@ use mathlib.Core.Option.{Option, none, some}
 use Prim.Native.Nat.{ℕ, _+_, _^_, _≤_, _<_}
 use native.Mathlib.Omega.{arith}
 use native.Mathlib.Decide.{decLt}
-use lib.Dec.{T, ltb, ltb→lt}
+use lib.Dec.{ltb→lt}
 use lib.ListN.{length}
 use Rattle.basis.proofs.BoolLaws.{and-elim}
 use Rattle.basis.proofs.ListLaws.{getD-mem}
 use Rattle.format.specs.declared.Shape.{Shape}
 use Rattle.format.specs.Limits.{maxBytes, maxMemory, maxEvents}
 use Rattle.format.specs.Shape.{covers}
-use Rattle.format.specs.Event.{Access, shapeAt, readsAt}
+use Rattle.format.specs.Event.{Access, shapeAt}
 use Rattle.format.specs.Execution.{Execution, event, noRow}
+use Rattle.format.proofs.ExecutionLaws.{shape-mem, reads-covers}
 use Rattle.sheet.specs.Parse.{refused, parse}
 use Rattle.sheet.specs.Promise.{WellFormed, row}
 use Rattle.sheet.proofs.ParseLaws.{too-long}
@@ -26,7 +27,6 @@ use Rattle.sheet.proofs.PromiseLaws.{promise}
 use Rattle.sheet.proofs.RefusalLaws.{refusal-number, refusal-place}
 use Rattle.answer.specs.declared.Names.{Names}
 use Rattle.answer.specs.declared.Settled.{Settled}
-use Rattle.answer.specs.declared.Settled.the-variants.{Orderly, Unsettled}
 use Rattle.answer.specs.declared.Answer.{Answer}
 use Rattle.answer.specs.declared.Answer.the-variants.{Refused, Broken, Consistent}
 use Rattle.answer.specs.NameOf.{namesOf, pairOf}
@@ -38,7 +38,6 @@ use Rattle.model.specs.Rules.{faulty}
 use Rattle.model.specs.Unsettled.{unsettledPair}
 use Rattle.model.specs.Judged.{admitted, settledOf, Judged}
 use Rattle.model.specs.Lowest.{Lowest, at-21, at-22, at-23, at-24, at-25, at-26}
-use Rattle.model.proofs.EventsLaws.{shape-mem, reads-covers}
 use Rattle.model.proofs.Sound.{sound}
 use Rattle.model.proofs.HappensLaws.{reader-inside, writer-inside}
 use Rattle.model.proofs.UnsettledLaws.{unsettled-inside}

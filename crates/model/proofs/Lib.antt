@@ -1,6 +1,5 @@
 pub mod Outcome
 pub mod AllEntries
-pub mod ShapeLaws
 pub mod EventsLaws
 pub mod Sound
 pub mod HappensLaws

@@ -6,21 +6,20 @@ use mathlib.Core.Logic.{_⊎_, inl, inr}
 use mathlib.Core.Bool.{Bool}
 use mathlib.Core.List.{List, [], _∷_, List·Memᴰ}
 use mathlib.Core.Option.{Option, none, some}
-use Prim.Native.Nat.{ℕ, zero, suc, _≤_, _<_}
+use Prim.Native.Nat.{ℕ, suc, _≤_, _<_}
 use native.Mathlib.Omega.{arith}
-use native.Mathlib.Decide.{decLt, ℕ-discrete}
+use native.Mathlib.Decide.{decLt}
 use lib.Dec.{T, eqb, ltb, eqb→eq, ltb→lt}
 use lib.ListN.{length, getD}
-use Rattle.basis.specs.Test.{_and_, _or_, find, any, across}
+use Rattle.basis.specs.Test.{_and_, find, across}
 use Rattle.basis.proofs.BoolLaws.{and-elim, or-cases}
 use Rattle.basis.proofs.ListLaws.{across-left, across-mem, mem-getD, getD-mem}
 use Rattle.basis.proofs.LoopLaws.{any-elim}
 use Rattle.basis.proofs.FindLaws.{find-none, Sorted, Then, find-first}
 use Rattle.format.specs.declared.Row.{Row}
-use Rattle.format.specs.Event.{writesAt}
-use Rattle.format.specs.Execution.{Execution, event, rowBelow, noRow}
+use Rattle.format.specs.Execution.{Execution, rowBelow, noRow}
+use Rattle.format.proofs.ExecutionLaws.{writes-covers, covering-inside}
 use Rattle.sheet.specs.Promise.{WellFormed, row}
-use Rattle.orders.specs.Order.{Meets}
 use Rattle.orders.specs.First.{Lex}
 use Rattle.orders.proofs.FirstLaws.{Tri, below, same, above, tri}
 use Rattle.answer.specs.declared.Names.{Names}
@@ -28,11 +27,10 @@ use Rattle.answer.specs.declared.Names.the-variants.{Row as OfRow, Event as OfE
 use Rattle.model.specs.Events.{numbers}
 use Rattle.model.specs.Happens.{Tests}
 use Rattle.model.specs.Rules.{breaks21, breaks22, breaks23, breaks24, breaks25, untornFrom, Fault, faulty, fault}
-use Rattle.model.specs.Order.{problem}
 use Rattle.model.specs.Judged.{Breaks}
 use Rattle.model.specs.Lowest.{Lowest, at-21, at-22, at-23, at-24, at-25, at-26, Somewhere, by-21, by-22, by-23, by-24, by-25, by-26, FirstBroken}
-use Rattle.model.proofs.EventsLaws.{writes-covers, covering-inside, number-mem}
-use Rattle.model.proofs.Sound.{Sound, sound}
+use Rattle.model.proofs.EventsLaws.{number-mem}
+use Rattle.model.proofs.Sound.{Sound}
 use Rattle.model.proofs.HappensLaws.{reader-inside, writer-inside, happens-inside}
 use Rattle.model.proofs.RulesLaws.{test24, test25, triples, clean, fault-none, fault-21, fault-22, fault-23, fault-24, fault-25}
 use Rattle.model.proofs.FirstLaws.{itself-lowest, between-lowest, torn-lowest}

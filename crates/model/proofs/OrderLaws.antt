@@ -18,6 +18,7 @@ use Rattle.basis.proofs.LoopLaws.{number-both}
 use Rattle.format.specs.declared.Row.{Row}
 use Rattle.format.specs.Event.{isInit}
 use Rattle.format.specs.Execution.{Execution, event, inits, others}
+use Rattle.format.proofs.ShapeLaws.{both-elim}
 use Rattle.orders.specs.Order.{In, Precedes, Distinct}
 use Rattle.orders.specs.Inits.{Begins}
 use Rattle.orders.specs.Order.{Meets}
@@ -29,7 +30,6 @@ use Rattle.model.specs.Events.{atRow}
 use Rattle.model.specs.Happens.{rowSyncs, Tests}
 use Rattle.model.specs.Bar.{barA, barB, barC}
 use Rattle.model.specs.Order.{problem}
-use Rattle.model.proofs.ShapeLaws.{both-elim}
 use Rattle.model.proofs.Sound.{Sound}
 use Rattle.model.proofs.HappensLaws.{happens-inside, init-earliest, init-not-sc, reader-inside}
 use Rattle.model.proofs.BarLaws.{RowBars, row-bars, bar-elim}

@@ -14,7 +14,7 @@ use native.Mathlib.Decide.{decLt}
 use lib.Dec.{T, eqb, ltb, eqb→eq, eqb-refl}
 use lib.ListN.{length}
 use Rattle.basis.specs.Test.{_and_, _or_, non, any}
-use Rattle.basis.proofs.BoolLaws.{and-elim, and-intro, or-cases, or-right, or-none, T-true}
+use Rattle.basis.proofs.BoolLaws.{and-elim, and-intro, or-cases, or-right, or-none, T-true, false-T}
 use Rattle.basis.proofs.LoopLaws.{any-elim, any-intro}
 use Rattle.format.specs.declared.Shape.{Shape}
 use Rattle.format.specs.declared.Row.{Row}
@@ -23,6 +23,8 @@ use Rattle.format.specs.Shape.{noShape, reads, writes, marks, sc, tearFree, cov
 use Rattle.format.specs.Event.{Access, Event, isInit, isMarker, nobody, accessAt, shapeAt, readsAt, writesAt}
 use Rattle.format.specs.Execution.{Execution, event}
 use Rattle.format.proofs.EventLaws.{one, access-hit, writesAt-one, readsAt-one, isMarker-one, isMarker-nobody, writesAt-nobody, readsAt-nobody, covers-nothing}
+use Rattle.format.proofs.ShapeLaws.{equal-sym, equal-self, covers-equal}
+use Rattle.format.proofs.ExecutionLaws.{event-out, shape-mem, reads-covers, writes-covers, covering-inside}
 use Rattle.sheet.specs.Promise.{WellFormed}
 use Rattle.orders.specs.Order.{Precedes, Meets}
 use Rattle.model.specs.Events.{atRow, ofReader, ofWriter, anyTwo}
@@ -32,8 +34,6 @@ use Rattle.model.specs.Bar.{barA, barB, barC, rowBars}
 use Rattle.model.specs.Order.{problem}
 use Rattle.model.specs.Unsettled.{clash, unsettled}
 use Rattle.model.specs.Sentences.{firstShape, shape, OneAccess, sync01, init01, between01, torn01, bars01, unsettled01, Meets01, Reduced}
-use Rattle.model.proofs.ShapeLaws.{equal-sym, equal-self, covers-equal, nothing-covers}
-use Rattle.model.proofs.EventsLaws.{event-out, shape-mem, reads-covers, writes-covers, covering-inside}
 use Rattle.model.proofs.Sound.{Sound}
 use Rattle.model.proofs.BarLaws.{row-bars, bars-row, bar-elim, bar-intro}
 use Rattle.model.proofs.OrderLaws.{distinct-apart}
@@ -72,7 +72,7 @@ module _ (x : Execution) (each-one : OneAccess x) where
   shape-found e n c = go (decLt e (length (x .events)))
     where
       go : Dec (e < length (x .events)) → shapeAt (event x e) n ≡ shape x e
-      go (no h) = absurd (nothing-covers n (subst (λ (a : Shape). T (covers a n)) (shape-outside e (omega arith)) c))
+      go (no h) = absurd (false-T _ (covers-nothing n) (subst (λ (a : Shape). T (covers a n)) (shape-outside e (omega arith)) c))
       go (yes h) =
           let k = T-true _ (subst (λ (b : Shape). T (covers b n)) (shape-inside e h) c) in
           ap (λ (d : Event). shapeAt d n) (as-one e h) ∙ ap (λ (b : Access). b .shape) (access-hit (event x e .agent) (each-one e h .0) n k) ∙ sym (shape-inside e h)

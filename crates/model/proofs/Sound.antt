@@ -2,7 +2,7 @@
 --     Sound x, sound     of a well-formed execution
 use mathlib.Core.Path.{_≡_, refl, sym, subst}
 use mathlib.Core.Bool.{Bool, true, false, cond}
-use mathlib.Core.List.{List, [], _∷_, List·Memᴰ, List·Memᴰ·head, List·Memᴰ·tail, List·Memᴰ·eq-of-singleton}
+use mathlib.Core.List.{List, [], _∷_, List·Memᴰ, List·Memᴰ·eq-of-singleton}
 use Prim.Native.Nat.{ℕ, zero, suc, _<_}
 use native.Mathlib.Omega.{arith}
 use native.Mathlib.Decide.{ℕ-discrete, decLt}
@@ -18,10 +18,11 @@ use Rattle.format.specs.Shape.{marks, overlap}
 use Rattle.format.specs.Event.{Access, Event, nobody, isInit, meets, readsAt, writesAt, isMarker}
 use Rattle.format.specs.Execution.{Execution, eventNo, event, inits, noRow, noPair}
 use Rattle.format.proofs.EventLaws.{isMarker-nobody}
+use Rattle.format.proofs.ShapeLaws.{overlap-sym}
+use Rattle.format.proofs.ExecutionLaws.{event-inside, access-inside}
 use Rattle.sheet.specs.Promise.{WellEvent, WellFormed, row, pair}
 use Rattle.model.specs.Events.{anyTwo}
-use Rattle.model.proofs.ShapeLaws.{overlap-sym}
-use Rattle.model.proofs.EventsLaws.{event-inside, access-inside, two-elim}
+use Rattle.model.proofs.EventsLaws.{two-elim}
 
 pub record Sound (x : Execution) : Type 0 where
   pub row-reads : (r : Row) → List·Memᴰ r (x .rows) → T (readsAt (event x (r .reader)) (r .address))

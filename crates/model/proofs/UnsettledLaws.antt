@@ -18,10 +18,11 @@ use Rattle.basis.proofs.FindLaws.{find-none, none-find}
 use Rattle.format.specs.Shape.{writes, covers, bothSc}
 use Rattle.format.specs.Event.{shapeAt}
 use Rattle.format.specs.Execution.{Execution, event}
+use Rattle.format.proofs.ShapeLaws.{both-cover, both-sym}
+use Rattle.format.proofs.ExecutionLaws.{access-inside}
 use Rattle.model.specs.Events.{numbers}
 use Rattle.model.specs.Unsettled.{clash, unsettled, unsettledPair, Orderly}
-use Rattle.model.proofs.ShapeLaws.{both-cover, both-sym}
-use Rattle.model.proofs.EventsLaws.{two-elim, two-at, access-inside, number-mem}
+use Rattle.model.proofs.EventsLaws.{two-elim, two-at, number-mem}
 
 or-sym : (a b : Bool) → T (a or b) → T (b or a)
 or-sym a b t = pick (or-cases a b t)

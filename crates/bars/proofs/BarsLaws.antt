@@ -6,7 +6,7 @@
 --     equals-mem                            the sets of equal ranges, event by event
 --     mask-mem                              a row's mask has exactly the events that the row bars
 --     bars-holds                            the table has exactly the bars of the rows, besides what it had
---     filled-size, filled-holds             the same of an empty table and the sets of equal ranges
+--     filled-holds                          the same of an empty table and the sets of equal ranges
 use mathlib.Core.Path.{_≡_, refl, sym, ap, _∙_, subst}
 use mathlib.Core.Bool.{Bool, true, false, cond}
 use mathlib.Core.Logic.{_⊎_, inl, inr, ⊎-elim}
@@ -298,10 +298,6 @@ module _ (t eq succ pred q : List ℕ) (l : List ℕ) (inside : slots * slots �
 module _ (t succ pred q : List ℕ) (n rows : ℕ) where
   abbrev full : List ℕ
   full = filledIn t n succ pred q rows (replicate (slots * slots) 0)
-
-  pub filled-size : length full ≡ slots * slots
-  unfolding filledIn
-  filled-size = bars-length t (equalsIn t n) succ pred q (replicate (slots * slots) 0) rows ∙ length-replicate {A = ℕ} (slots * slots) 0
 
   pub filled-holds : n ≤ slots → (v w r : ℕ) → v < slots → w < slots → mem (getD full (v * slots + w) 0) r
       ≡ any (λ (j : ℕ). eqb (rowIn q j .reader) r and eqb (rowIn q j .writer) w and rowBarsIn t n succ pred (rowIn q j) v) (from 0 rows)

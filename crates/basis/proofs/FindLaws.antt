@@ -1,11 +1,13 @@
 -- The first entry of a list that passes a test (`find`, specs/Test.antt). Assumes nothing.
 --     find-none, none-find, find-fewer, find-same     nothing found: nothing passes; fewer pass; two tests that agree on the list
 --     find-none-left, find-found, find-more           where a loop has come to index i: no entry is left; entry i passes; it does not
+--     found-each                                      of a mapped list: what is found, with its names
 --     find-at, find-no                                of the numbers below n: the least that passes; none does
 --     find-firsts, least-pair, no-pair                of pairs: by a test of the first part; the least that passes; none does
 --     else-none, none-else, mapped-none, none-mapped  one search after another; what is found, with its names
---     Sorted R l, sorted-from, sorted-across, find-least     each entry is R to those behind it; numbers; pairs, the first parts deciding
---                                                     (`Then`); of a sorted list, `find` gives the least entry that passes
+--     Sorted R l, sorted-by, sorted-from, sorted-across     each entry is R to those behind it; by places; numbers; pairs, the first parts
+--                                                     deciding (`Then`)
+--     find-least                                      of a sorted list, `find` gives the least entry that passes
 --     FirstIn, find-first                             of any list, an entry before which none passes
 use mathlib.Core.Path.{_≡_, refl, sym, ap, _∙_, subst}
 use mathlib.Core.Bool.{Bool, true, false}
@@ -21,7 +23,7 @@ use lib.ListN.{length, getD, drop, drop-of-length-le}
 use lib.Seq.{drop-cons}
 use Rattle.basis.specs.Test.{keep, find, _else_, mapped, each, across, from}
 use Rattle.basis.proofs.BoolLaws.{true-T, false-T}
-use Rattle.basis.proofs.ListLaws.{each-elim, across-left, from-elim}
+use Rattle.basis.proofs.ListLaws.{mem-getD, each-elim, across-left, from-elim}
 
 never : {A : Type 0} {a : A} → some a ≡ none → ⊥
 never {A} {a} e = Option·none-ne-some a (sym e)
@@ -129,22 +131,30 @@ module _ {A : Type 0} (f : A → Bool) where
       go true e = refl
       go false e = e
 
-module _ {A B : Type 0} (f : A × B → Bool) where
-  find-each : (a : A) (m : List B) → find f (each (λ (b : B). (a, b)) m) ≡ mapped (λ (b : B). (a, b)) (find (λ (b : B). f (a, b)) m)
+module _ {A B : Type 0} (f : B → Bool) (g : A → B) where
+  find-each : (m : List A) → find f (each g m) ≡ mapped g (find (λ (a : A). f (g a)) m)
   unfolding find each mapped keep
-  find-each a [] = refl
-  find-each a (b ∷ m) = go (f (a, b)) (find-each a m)
+  find-each [] = refl
+  find-each (a ∷ m) = go (f (g a)) (find-each m)
     where
-      go : (y : Bool) → find f (each (λ (c : B). (a, c)) m) ≡ mapped (λ (c : B). (a, c)) (find (λ (c : B). f (a, c)) m)
-          → keep {A = A × B} y (a, b) (find f (each (λ (c : B). (a, c)) m)) ≡ mapped {B = A × B} (λ (c : B). (a, c)) (keep y b (find (λ (c : B). f (a, c)) m))
+      go : (y : Bool) → find f (each g m) ≡ mapped g (find (λ (c : A). f (g c)) m) → keep y (g a) (find f (each g m)) ≡ mapped g (keep y a (find (λ (c : A). f (g c)) m))
       go true e = refl
       go false e = e
 
+mapped-twice : {A B C : Type 0} (h : B → C) (g : A → B) (o : Option A) → mapped h (mapped g o) ≡ mapped (λ (a : A). h (g a)) o
+unfolding mapped
+mapped-twice h g none = refl
+mapped-twice h g (some a) = refl
+
+pub found-each : {A B C : Type 0} (f : B → Bool) (h : B → C) (g : A → B) (l : List A) → mapped h (find f (each g l)) ≡ mapped (λ (a : A). h (g a)) (find (λ (a : A). f (g a)) l)
+found-each f h g l = ap (mapped h) (find-each f g l) ∙ mapped-twice h g (find (λ a. f (g a)) l)
+
+module _ {A B : Type 0} (f : A × B → Bool) where
   find-across : (a : A) (l : List A) (m : List B)
       → find f (across (a ∷ l) m) ≡ (mapped {B = A × B} (λ (b : B). (a, b)) (find (λ (b : B). f (a, b)) m) else find f (across l m))
   unfolding across
   find-across a l m =
-      find-append f (each (λ (b : B). (a, b)) m) (across l m) ∙ ap (λ (o : Option (A × B)). o else find f (across l m)) (find-each a m)
+      find-append f (each (λ (b : B). (a, b)) m) (across l m) ∙ ap (λ (o : Option (A × B)). o else find f (across l m)) (find-each f (λ (b : B). (a, b)) m)
 
   module _ (l : List A) (m : List B) (i : ℕ) (d : A) (e : find f (across l m) ≡ find f (across (drop i l) m)) where
     turn : i < length l
@@ -254,6 +264,13 @@ module _ {A : Type 0} (R : A → A → Type 0) where
           past : (c : A) → T (f c) → (c ≡ b) ⊎ List·Memᴰ c l → (List·Memᴰ c l → T (f c) → (c ≡ a) ⊎ R a c) → (c ≡ a) ⊎ R a c
           past c t (inl p) g = absurd (z (subst (λ (d : A). T (f d)) p t))
           past c t (inr m) g = g m t
+
+pub sorted-by : {A : Type 0} (R : A → A → Type 0) (d : A) (l : List A) → ((i j : ℕ) → i < j → j < length l → R (getD l i d) (getD l j d)) → Sorted R l
+sorted-by R d [] h = tt
+sorted-by R d (a ∷ l) h = (
+  (λ c m. let w = mem-getD d m in let b = w .1 in subst (R a) (w .2) (h 0 (suc (w .0)) (omega arith) (omega arith))),
+  sorted-by R d l (λ i j p q. h (suc i) (suc j) (omega arith) (omega arith)),
+)
 
 pub sorted-from : (n s : ℕ) → Sorted (λ a b. a < b) (from s n)
 unfolding from

@@ -5,13 +5,14 @@
 --     last-at, snoc-split, each-snoc, two-snoc     a list with one entry more
 --     mem-getD, getD-mem            an entry of a list and its place
 --     each-elim, each-mem, each-id  an entry of a mapped list; mapped by the identity
+--     each-at, each-past, zeros-at  an entry of mapped numbers, by its place; of a row of zeros
 --     across-left, across-mem       a pair of two lists' entries
 use mathlib.Core.Path.{_≡_, refl, sym, ap, _∙_, subst}
 use mathlib.Core.Logic.{_⊎_, inl, inr, ⊎-elim}
 use mathlib.Core.List.{List, [], _∷_, _++_, map, List·Memᴰ, List·Memᴰ·head, List·Memᴰ·tail, List·Memᴰ·not-nil, List·Memᴰ·cases-cons, List·Memᴰ·append-cases, Memᴰ·append-left, Memᴰ·append-right}
 use Prim.Native.Nat.{ℕ, zero, suc, _+_, _-_, _≤_, _<_}
 use native.Mathlib.Omega.{arith}
-use lib.ListN.{length, getD, take, drop, length-drop, length-take, length-map, drop-of-length-le, length-append, List·getD-append, List·getD-eq-default}
+use lib.ListN.{length, getD, take, drop, replicate, length-drop, length-take, length-map, drop-of-length-le, length-append, List·getD-append, List·getD-eq-default}
 use lib.Seq.{take-all, take-nil, getD-take, getD-append-seam}
 use native.Mathlib.Nat.{eq-or-lt-of-le}
 use Rattle.basis.specs.Test.{each, across, from}
@@ -74,6 +75,11 @@ from-next s (suc k) =
     let e : suc s + k ≡ s + suc k = omega arith in
     ap (λ (l : List ℕ). s ∷ l) (from-next (suc s) k ∙ ap (λ (i : ℕ). from (suc s) k ++ (i ∷ [])) e)
 
+pub zeros-at : (n : ℕ) (l : List ℕ) (i : ℕ) → i < n → getD (replicate n 0 ++ l) i 1 ≡ 0
+zeros-at zero l i h = absurd (omega arith)
+zeros-at (suc n) l zero h = refl
+zeros-at (suc n) l (suc i) h = zeros-at n l i (omega arith)
+
 -- ---- a list with one entry more
 
 module _ {A : Type 0} (d : A) where
@@ -128,6 +134,19 @@ pub each-id : {A : Type 0} (l : List A) → each (λ (a : A). a) l ≡ l
 unfolding each
 each-id [] = refl
 each-id (a ∷ l) = ap (λ (m : List _). a ∷ m) (each-id l)
+
+module _ {A : Type 0} where
+  pub each-at : (f : ℕ → A) (n s i : ℕ) (d : A) → i < n → getD (each f (from s n)) i d ≡ f (s + i)
+  unfolding each from
+  each-at f zero s i d h = absurd (omega arith)
+  each-at f (suc n) s zero d h = let e : s ≡ s + 0 = omega arith in ap f e
+  each-at f (suc n) s (suc i) d h = let e : suc s + i ≡ s + suc i = omega arith in each-at f n (suc s) i d (omega arith) ∙ ap f e
+
+  pub each-past : (f : ℕ → A) (n s i : ℕ) (d : A) → n ≤ i → getD (each f (from s n)) i d ≡ d
+  unfolding each from
+  each-past f zero s i d h = refl
+  each-past f (suc n) s zero d h = absurd (omega arith)
+  each-past f (suc n) s (suc i) d h = each-past f n (suc s) i d (omega arith)
 
 -- ---- across
 

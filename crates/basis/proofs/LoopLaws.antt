@@ -1,9 +1,10 @@
 -- Whether some entry of a list passes a test, whether all do, and how many (specs/Test.antt). Assumes nothing.
 --     any-elim, any-intro, any-at, none-intro     one that passes is enough; none passes
 --     any-none, any-found, any-more               where a loop has come to index i: no entry is left; entry i passes; it does not, and the loop goes on
---     any-same, any-each, any-snoc, any-next      two tests that agree on the list; a mapped list; one entry more; one number more
+--     any-same, any-each, any-one, any-snoc, any-next     two tests that agree on the list; a mapped list; one entry, one more; one number more
 --     all-intro, all-number                       every entry passes: exactly when as many as there are
 --     number-le, number-both, number-snoc, number-append     at most all; a test and its opposite; one entry more; two lists
+--     number-front                                where those that pass stand in front, they are the first so many
 use mathlib.Core.Path.{_≡_, refl, sym, ap, _∙_, subst}
 use mathlib.Core.Logic.{_⊎_, inl, inr}
 use mathlib.Core.Bool.{Bool, true, false, cond}
@@ -130,6 +131,10 @@ unfolding any each
 any-each f g [] = refl
 any-each f g (a ∷ l) = ap (λ (z : Bool). f (g a) or z) (any-each f g l)
 
+pub any-one : {A : Type 0} (f : A → Bool) (a : A) → any f (a ∷ []) ≡ f a
+unfolding any
+any-one f a = or-none (f a)
+
 pub any-snoc : {A : Type 0} (f : A → Bool) (l : List A) (a : A) → any f (l ++ (a ∷ [])) ≡ (any f l or f a)
 unfolding any _or_
 any-snoc f [] a = or-none (f a)
@@ -147,3 +152,22 @@ module _ {A : Type 0} (p : A → Bool) where
       go : (b : Bool) → number p (l ++ m) ≡ number p l + number p m → cond b (suc (number p (l ++ m))) (number p (l ++ m)) ≡ cond b (suc (number p l)) (number p l) + number p m
       go true e = omega arith
       go false e = e
+
+-- where the entries that pass stand in front, the first so many are those
+pub number-front : {A : Type 0} (n : A) (f : A → Bool) (l : List A) → ((e d : ℕ) → e < d → d < length l → T (f (getD l d n)) → T (f (getD l e n)))
+    → (e : ℕ) → e < number f l → T (f (getD l e n))
+unfolding number
+number-front n f [] down e h = absurd (omega arith)
+number-front n f (a ∷ l) down e h = go (f a) refl e h (number-front n f l (λ i j q k. down (suc i) (suc j) (omega arith) (omega arith)))
+  where
+    go : (b : Bool) → f a ≡ b → (i : ℕ) → i < cond b (suc (number f l)) (number f l) → ((j : ℕ) → j < number f l → T (f (getD l j n))) → T (f (getD (a ∷ l) i n))
+    go true q zero k ih = true-T _ q
+    go true q (suc i) k ih = ih i (omega arith)
+    go false q i k ih = lowest i k (ih i k) (ih 0 (omega arith))
+      where
+        some-left : (m : List _) → 0 < number f m → 0 < length m
+        some-left [] p = p
+        some-left (c ∷ m) p = omega arith
+
+        lowest : (j : ℕ) → j < number f l → T (f (getD l j n)) → T (f (getD l 0 n)) → T (f (getD (a ∷ l) j n))
+        lowest j p t u = absurd (subst T q (down 0 1 (omega arith) (omega (arith, some-left l (omega arith))) u))

@@ -3,7 +3,6 @@
 --     first-found, first-none     what a loop answers            first-find                 as a search through a list
 --     first-or            of two tests together
 --     first-past, first-below     a loop that has come to the end or beyond; two tests that agree below n
---     lowest-first        the lowest of a set is its first member
 --     Left, left-start, left-lowest, left-hit, left-next, left-end     a loop over the members of a set, for the first that passes
 use mathlib.Core.Path.{_≡_, refl, sym, ap, _∙_, subst}
 use mathlib.Core.Bool.{Bool, true, false, cond}
@@ -11,7 +10,7 @@ use mathlib.Core.Logic.{⊎-elim}
 use mathlib.Core.Option.{none, some}
 use Prim.Native.Nat.{ℕ, zero, suc, _^_, _≤_, _<_, min}
 use native.Mathlib.Omega.{arith}
-use native.Mathlib.Decide.{decLt, ℕ-discrete}
+use native.Mathlib.Decide.{decLt}
 use borrow.Author.Tests.{ltb-true, ltb-false}
 use lib.Dec.{ltb}
 use Rattle.basis.specs.Test.{_and_, _or_, find, from}
@@ -110,16 +109,6 @@ first-below p q n k few same =
     })
 
 -- ---- the members of a set
-
-pub lowest-first : (m v : ℕ) → m < 2 ^ slots → Lowest m v → v ≡ firstOf (mem m) slots
-lowest-first m v w low = go (ℕ-discrete m 0)
-  where
-    go : Dec (m ≡ 0) → v ≡ firstOf (mem m) slots
-    go (yes e) = let z = low .none e in first-is (mem m) (record { within = omega arith; passes = λ h. absurd (omega arith); least = low .least })
-    go (no e) =
-        let h = low .member (omega (arith, e)) in
-        let z = mem-lt slots m v w h in
-        first-is (mem m) (record { within = omega arith; passes = λ k. h; least = low .least })
 
 -- left has the members of m of which nothing is known yet: those that are gone do not pass
 pub record Left (g : ℕ → Bool) (m left : ℕ) : Type 0 where

@@ -3,7 +3,7 @@
 --     stand-start, stand-lowest, stand-next, stand-end     it begins; what it takes; a turn; nothing is left
 --     upTo-more                                 a turn of a loop over numbers
 --     picked-none, picked-in, picked-out        a loop that gathers the numbers that pass
---     mem-picked, picked-nothing, picked-lt     what it has gathered
+--     mem-picked                                what it has gathered
 --     over-picked                               the same by a loop over the members of a set that has all that pass
 use mathlib.Core.Path.{_≡_, refl, sym, ap, _∙_, subst}
 use mathlib.Core.Bool.{Bool, true, false, cond, not, _&&_}
@@ -18,7 +18,7 @@ use lib.Dec.{eqb, ltb}
 use Rattle.basis.specs.Test.{_and_}
 use Rattle.basis.proofs.BoolLaws.{and-holds, and-both, by-bool, bool-ext, not-both-ways}
 use Rattle.sets.specs.Mask.{slots, mem, Has, insert, remove, Lowest}
-use Rattle.sets.proofs.MaskLaws.{mem-empty, mem-lt, mem-remove, remove-old, remove-cases, remove-lt, insert-cases, insert-old, insert-new, lt-of-members, ext-all}
+use Rattle.sets.proofs.MaskLaws.{mem-empty, mem-lt, mem-remove, remove-old, remove-cases, remove-lt, insert-cases, insert-old, insert-new, ext-all}
 use Rattle.cells.specs.Walk.{upTo, onlyOf, over, taking, picked}
 
 module _ {A : Type 0} where
@@ -155,14 +155,6 @@ mem-picked n f d =
     bool-ext (mem (picked n f) d) (ltb d n and f d)
     (λ h. let k = picked-facts n f d .0 h in and-holds (ltb d n) (f d) (lt-ltb d n (k .0)) ∙ k .1)
     (λ h. let k = and-both (ltb d n) (f d) h in picked-facts n f d .1 (ltb-true d n (k .0)) (k .1))
-
-pub picked-nothing : (n : ℕ) (f : ℕ → Bool) → ((d : ℕ) → f d ≡ false) → 0 ≡ picked n f
-unfolding picked upTo
-picked-nothing zero f h = refl
-picked-nothing (suc n) f h = picked-nothing n f h ∙ sym (ap (λ (c : Bool). cond c (insert (upTo (taking f) n 0) n) (upTo (taking f) n 0)) (h n))
-
-pub picked-lt : (n : ℕ) (f : ℕ → Bool) → picked n f < 2 ^ n
-picked-lt n f = lt-of-members n (picked n f) (λ e h. picked-facts n f e .0 h .0)
 
 -- ---- the members of a set that pass
 

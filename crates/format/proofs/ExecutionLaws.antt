@@ -1,5 +1,5 @@
 -- The laws of the lookups: the access of an event at a byte (specs/Event.antt), and event number e (specs/Execution.antt). Assumes nothing.
---     shape-mem                          an event that covers a byte does so by one of its accesses
+--     shape-mem, shape-covers            an event covers a byte by one of its accesses, and by each that does
 --     reads-covers, reads-reads, writes-covers, writes-writes     a test at a byte, taken apart
 --     event-out, event-inside            no event behind the last; what does not hold of nobody holds of events only
 --     access-inside, agent-inside, covering-inside     what has an access, an agent, a byte is one of the events
@@ -12,7 +12,7 @@ use native.Mathlib.Nat.{not-suc-le-zero}
 use native.Mathlib.Decide.{decLt}
 use lib.Dec.{T}
 use lib.ListN.{length, List·getD-eq-default}
-use Rattle.basis.proofs.BoolLaws.{false-T, and-elim}
+use Rattle.basis.proofs.BoolLaws.{true-T, false-T, and-elim}
 use Rattle.format.specs.Shape.{reads, writes, covers}
 use Rattle.format.specs.Event.{Access, Event, nobody, lookup, accessAt, shapeAt, readsAt, writesAt}
 use Rattle.format.specs.Execution.{Execution, eventNo, event}
@@ -27,6 +27,20 @@ lookup-mem (a ∷ l) n t = go (covers (a .shape) n) t (lookup-mem l n)
         → List·Memᴰ (cond c a (lookup l n)) (a ∷ l)
     go true s ih = List·Memᴰ·head refl
     go false s ih = List·Memᴰ·tail (ih s)
+
+-- an access of an event covers a byte; so does the access at that byte
+found-covers : (l : List Access) (a : Access) (k : ℕ) → List·Memᴰ a l → T (covers (a .shape) k) → T (covers (lookup l k .shape) k)
+unfolding lookup
+found-covers (b ∷ l) a k m h = go (covers (b .shape) k) refl m (λ n. found-covers l a k n h)
+  where
+    go : (c : Bool) → covers (b .shape) k ≡ c → List·Memᴰ a (b ∷ l) → (List·Memᴰ a l → T (covers (lookup l k .shape) k)) → T (covers (cond c b (lookup l k) .shape) k)
+    go true e n ih = true-T _ e
+    go false e (List·Memᴰ·head z) ih = absurd (false-T _ e (subst (λ (d : Access). T (covers (d .shape) k)) z h))
+    go false e (List·Memᴰ·tail n) ih = ih n
+
+pub shape-covers : (d : Event) (a : Access) (k : ℕ) → List·Memᴰ a (d .accesses) → T (covers (a .shape) k) → T (covers (shapeAt d k) k)
+unfolding shapeAt accessAt
+shape-covers d a k m h = found-covers (d .accesses) a k m h
 
 module _ (d : Event) (n : ℕ) where
   pub shape-mem : T (covers (shapeAt d n) n) → (a : Access) × List·Memᴰ a (d .accesses) × (a .shape ≡ shapeAt d n)

@@ -5,7 +5,6 @@
 --     tabled                            accesses in their slots, one or two to an event, are the table's at each byte
 --     owned                             and of an event's accesses no two cover a byte
 --     slotted-one                       events with one access, in their first slots, are slotted
---     tabled-one, own-one               and so tabled, and owned
 use mathlib.Core.Path.{_≡_, refl, sym, ap, _∙_, subst}
 use mathlib.Core.Bool.{true, false}
 use mathlib.Core.Logic.{_⊎_, inl, inr}
@@ -191,9 +190,3 @@ module _ (x : Execution) (t : List ℕ) (n : ℕ) (o : OneTabled x t n) where
             first = refl;
             second = o .second e (omega arith);
           }
-
-  pub tabled-one : Tabled x t n
-  tabled-one = tabled x t n slotted-one
-
-  pub own-one : Owned x
-  own-one = owned x t n slotted-one

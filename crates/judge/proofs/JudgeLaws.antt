@@ -14,7 +14,6 @@ use Rattle.sheet.specs.declared.Sheet.{Sheet}
 use Rattle.sheet.specs.Parse.{refused, parse}
 use Rattle.sheet.specs.Handed.{execution, HandedWhole}
 use Rattle.sheet.specs.Promise.{WellFormed}
-use Rattle.sheet.proofs.HandedLaws.{events-count}
 use Rattle.sheet.proofs.PromiseLaws.{promise}
 use Rattle.sets.specs.Mask.{slots}
 use Rattle.sets.specs.Table.{bytesFor, cleared}
@@ -30,6 +29,7 @@ use Rattle.answer.specs.declared.Rule.{Rule}
 use Rattle.answer.specs.declared.Rule.the-variants.{Kept, Breach}
 use Rattle.rules.specs.Rules.{ruleIn}
 use Rattle.front.specs.Tabled.{hbOf, foundOf}
+use Rattle.front.proofs.LaidLaws.{laid-count}
 use Rattle.front.proofs.SheetLaws.{sheet-held, sheet-rules}
 use Rattle.judge.specs.Admitted.{Admits, Unbroken}
 
@@ -45,7 +45,7 @@ module _ {s : List ℕ} {x : Sheet} {at : List ℕ} (h : HandedWhole s x at) whe
   X = execution s x at
 
   events : length (X .events) ≡ x .events
-  events = let z = h .laid .size in let f = h .laid .few in events-count s (x .head .edition) (x .events) at (omega arith)
+  events = laid-count (h .laid)
 
   pub inits-fit : x .inits ≤ x .events
   inits-fit = let e = inits-others X in let i = h .laid .inits in let n = events in omega arith

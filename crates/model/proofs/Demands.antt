@@ -4,11 +4,12 @@ use mathlib.Core.Logic.{⊎-elim}
 use mathlib.Core.Bool.{Bool}
 use mathlib.Core.List.{List, _++_}
 use mathlib.Core.Option.{Option, none, some}
-use Prim.Native.Nat.{ℕ, zero, suc, _≤_, _<_}
+use Prim.Native.Nat.{ℕ, zero, _≤_}
 use native.Mathlib.Omega.{arith}
-use lib.ListN.{length, getD, take, drop, replicate}
+use lib.ListN.{length, getD, take, drop}
 use lib.Seq.{take-take}
 use Rattle.basis.specs.Test.{from}
+use Rattle.basis.proofs.ListLaws.{zeros-at}
 use Rattle.format.specs.Execution.{Execution, inits}
 use Rattle.sheet.specs.Parse.{whole, parse}
 use Rattle.sheet.specs.Described.{described, Rowless}
@@ -159,11 +160,6 @@ result s scratch order =
     }
 
 -- ---- the buffers
-
-zeros-at : (n : ℕ) (l : List ℕ) (i : ℕ) → i < n → getD (replicate n 0 ++ l) i 1 ≡ 0
-zeros-at zero l i h = absurd (omega arith)
-zeros-at (suc n) l zero h = refl
-zeros-at (suc n) l (suc i) h = zeros-at n l i (omega arith)
 
 left : (s scratch scratch′ : List ℕ) (y x : Execution) → y ≡ x → needed y ≤ length scratch → scratch′ ≡ cleared (needed y) scratch
     → (answer : Answer) (order order′ : List ℕ) → ((IsConsistent answer → ⊥) → order′ ≡ order)

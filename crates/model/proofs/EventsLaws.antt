@@ -1,6 +1,6 @@
 -- The laws of specs/Events.antt. Assumes nothing.
 --     two-elim, two-intro, two-at        some access of the one and some access of the other
---     number-mem, number-elim            the numbers of all events
+--     number-mem                         the numbers of all events
 use mathlib.Core.Path.{sym, subst}
 use mathlib.Core.Bool.{Bool}
 use mathlib.Core.List.{List·Memᴰ}
@@ -9,7 +9,7 @@ use native.Mathlib.Omega.{arith}
 use lib.Dec.{T}
 use lib.ListN.{length}
 use Rattle.basis.specs.Test.{any}
-use Rattle.basis.proofs.ListLaws.{from-mem, from-elim}
+use Rattle.basis.proofs.ListLaws.{from-mem}
 use Rattle.basis.proofs.LoopLaws.{any-elim, any-intro}
 use Rattle.format.specs.declared.Shape.{Shape}
 use Rattle.format.specs.Shape.{covers}
@@ -44,7 +44,3 @@ module _ (x : Execution) where
   pub number-mem : (e : ℕ) → e < length (x .events) → List·Memᴰ e (numbers x)
   unfolding numbers
   number-mem e h = from-mem (length (x .events)) 0 e zero-le (omega arith)
-
-  pub number-elim : (e : ℕ) → List·Memᴰ e (numbers x) → e < length (x .events)
-  unfolding numbers
-  number-elim e m = omega (arith, from-elim (length (x .events)) 0 e m)

@@ -4,18 +4,18 @@
 use mathlib.Core.Path.{_≡_, refl, sym, ap, subst, _∙_}
 use mathlib.Core.Logic.{_⊎_, inl, inr}
 use mathlib.Core.Bool.{Bool}
-use mathlib.Core.List.{List, [], _∷_, List·Memᴰ}
+use mathlib.Core.List.{[], _∷_, List·Memᴰ}
 use mathlib.Core.Option.{Option, none, some}
-use Prim.Native.Nat.{ℕ, suc, _≤_, _<_}
+use Prim.Native.Nat.{ℕ, _≤_, _<_}
 use native.Mathlib.Omega.{arith}
 use native.Mathlib.Decide.{decLt}
 use lib.Dec.{T, eqb, ltb, eqb→eq, ltb→lt}
-use lib.ListN.{length, getD}
+use lib.ListN.{length}
 use Rattle.basis.specs.Test.{_and_, find, across}
 use Rattle.basis.proofs.BoolLaws.{and-elim, or-cases}
 use Rattle.basis.proofs.ListLaws.{across-left, across-mem, mem-getD, getD-mem}
 use Rattle.basis.proofs.LoopLaws.{any-elim}
-use Rattle.basis.proofs.FindLaws.{find-none, Sorted, Then, find-first}
+use Rattle.basis.proofs.FindLaws.{find-none, sorted-by, Then, find-first}
 use Rattle.format.specs.declared.Row.{Row}
 use Rattle.format.specs.Execution.{Execution, rowBelow, noRow}
 use Rattle.format.proofs.ExecutionLaws.{writes-covers, covering-inside}
@@ -36,13 +36,6 @@ use Rattle.model.proofs.RulesLaws.{test24, test25, triples, clean, faul
 use Rattle.model.proofs.FirstLaws.{itself-lowest, between-lowest, torn-lowest}
 
 -- ---- rows, by their numbers
-
-sorted-by : {A : Type 0} (R : A → A → Type 0) (d : A) (l : List A) → ((i j : ℕ) → i < j → j < length l → R (getD l i d) (getD l j d)) → Sorted R l
-sorted-by R d [] h = tt
-sorted-by R d (a ∷ l) h = (
-  (λ c m. let w = mem-getD d m in let b = w .1 in subst (R a) (w .2) (h 0 (suc (w .0)) (omega arith) (omega arith))),
-  sorted-by R d l (λ i j p q. h (suc i) (suc j) (omega arith) (omega arith)),
-)
 
 row-cases : (q r : Row) → T (rowBelow q r) → (q .reader < r .reader) ⊎ ((q .reader ≡ r .reader) × (q .address < r .address))
 unfolding rowBelow

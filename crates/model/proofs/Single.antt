@@ -7,15 +7,15 @@
 use mathlib.Core.Path.{_≡_, sym, _∙_, ap, subst}
 use mathlib.Core.Logic.{_⊎_, inl, inr, _↔_}
 use mathlib.Core.Bool.{Bool}
-use mathlib.Core.List.{List, [], _∷_, List·Memᴰ, List·Memᴰ·eq-of-singleton}
+use mathlib.Core.List.{List, List·Memᴰ, List·Memᴰ·eq-of-singleton}
 use Prim.Native.Nat.{ℕ, _≤_, _<_}
 use native.Mathlib.Omega.{arith}
 use native.Mathlib.Decide.{decLt}
 use lib.Dec.{T, eqb, ltb, eqb→eq, eqb-refl}
 use lib.ListN.{length}
 use Rattle.basis.specs.Test.{_and_, _or_, non, any}
-use Rattle.basis.proofs.BoolLaws.{and-elim, and-intro, or-cases, or-right, or-none, T-true, false-T}
-use Rattle.basis.proofs.LoopLaws.{any-elim, any-intro}
+use Rattle.basis.proofs.BoolLaws.{and-elim, and-intro, or-cases, or-right, T-true, false-T}
+use Rattle.basis.proofs.LoopLaws.{any-elim, any-intro, any-one}
 use Rattle.format.specs.declared.Shape.{Shape}
 use Rattle.format.specs.declared.Row.{Row}
 use Rattle.format.specs.declared.Pair.{Pair}
@@ -40,11 +40,6 @@ use Rattle.model.proofs.OrderLaws.{distinct-apart}
 
 pub one-access : (x : Execution) → WellFormed x → OneAccess x
 one-access x wf e h = let w = wf .events e h in (w .access, w .one-access)
-
-module _ {A : Type 0} where
-  any-one : (f : A → Bool) (a : A) → any f (a ∷ []) ≡ f a
-  unfolding any
-  any-one f a = or-none (f a)
 
 module _ (x : Execution) (each-one : OneAccess x) where
   shape-inside : (e : ℕ) (h : e < length (x .events)) → shape x e ≡ each-one e h .0 .shape

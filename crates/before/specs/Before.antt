@@ -4,9 +4,9 @@
 --     ownIn t n e               an init's mask: what it meets; another event's: what is later
 --     agentsIn, behindIn, ownBy     the same by a mask for each agent
 --     syncIn t r                the row's two accesses at its byte are both sc with equal ranges
---     rowsIn, pairsIn           the masks with the steps of the first rows, of the first pairs
---     stepsIn                   all direct steps                                   turnedIn         the masks with the columns
---     Ordered                   the direct steps, closed, and their columns
+--     rowStepsIn, pairStepsIn   the masks with the steps of the first rows, of the first pairs
+--     stepsIn                   all direct steps                                   columnsIn        the masks with the columns
+--     ClosedSteps               the direct steps, closed, and their columns
 --     directIn, stepIn          the same of two events, as a test: what they make by themselves, and any direct step
 -- Assumes nothing.
 use mathlib.Core.Path.{_≡_}
@@ -55,32 +55,32 @@ ownBy t n by e = cond (eqb (agentIn t e) 0) (picked n (metIn t e)) (behindIn t b
 unfoldable pub syncIn : List ℕ → Row → Bool
 syncIn t r = bothSc (atIn t (r .writer % slots) (r .address)) (atIn t (r .reader % slots) (r .address))
 
-unfoldable pub rowGains : List ℕ → Row → List ℕ → List ℕ
-rowGains t r l = cond (syncIn t r) (gaining l (r .writer % slots) (r .reader % slots)) l
+unfoldable pub syncGains : List ℕ → Row → List ℕ → List ℕ
+syncGains t r l = cond (syncIn t r) (gaining l (r .writer % slots) (r .reader % slots)) l
 
-unfoldable pub rowsIn : List ℕ → List ℕ → ℕ → List ℕ → List ℕ
-rowsIn t q n l = upTo (λ (j : ℕ). rowGains t (rowIn q j)) n l
+unfoldable pub rowStepsIn : List ℕ → List ℕ → ℕ → List ℕ → List ℕ
+rowStepsIn t q n l = upTo (λ (j : ℕ). syncGains t (rowIn q j)) n l
 
 abbrev pub pairGains : Pair → List ℕ → List ℕ
 pairGains p l = gaining l (p .first % slots) (p .second % slots)
 
-unfoldable pub pairsIn : List ℕ → ℕ → List ℕ → List ℕ
-pairsIn p n l = upTo (λ (j : ℕ). pairGains (pairIn p j)) n l
+unfoldable pub pairStepsIn : List ℕ → ℕ → List ℕ → List ℕ
+pairStepsIn p n l = upTo (λ (j : ℕ). pairGains (pairIn p j)) n l
 
 -- ---- the whole
 
 unfoldable pub stepsIn : List ℕ → ℕ → List ℕ → ℕ → List ℕ → ℕ → List ℕ → List ℕ
-stepsIn t n q m p k l = pairsIn p k (rowsIn t q m (placing (ownIn t n) n l))
+stepsIn t n q m p k l = pairStepsIn p k (rowStepsIn t q m (placing (ownIn t n) n l))
 
 abbrev pub turnAt : List ℕ → ℕ → List ℕ → List ℕ
 turnAt succ e l = scatter l (getD succ e 0) e
 
-unfoldable pub turnedIn : List ℕ → ℕ → List ℕ → List ℕ
-turnedIn succ n l = upTo (turnAt succ) (taken n succ) l
+unfoldable pub columnsIn : List ℕ → ℕ → List ℕ → List ℕ
+columnsIn succ n l = upTo (turnAt succ) (taken n succ) l
 
-pub record Ordered (t : List ℕ) (n : ℕ) (q : List ℕ) (m : ℕ) (p : List ℕ) (k : ℕ) (succ succ′ pred pred′ : List ℕ) : Type 0 where
+pub record ClosedSteps (t : List ℕ) (n : ℕ) (q : List ℕ) (m : ℕ) (p : List ℕ) (k : ℕ) (succ succ′ pred pred′ : List ℕ) : Type 0 where
   pub closed : Closed (taken n (stepsIn t n q m p k succ)) (stepsIn t n q m p k succ) succ′
-  pub turned : pred′ ≡ turnedIn succ′ n pred
+  pub turned : pred′ ≡ columnsIn succ′ n pred
 
 -- ---- the same, event by event
 

@@ -36,8 +36,8 @@ use Rattle.model.proofs.Sound.{Sound}
 use Rattle.model.proofs.HappensLaws.{step-inside, happens-inside, closed-tests}
 use Rattle.tables.specs.Tables.{agentIn, shapeIn, atIn, rowIn, pairIn}
 use Rattle.tables.proofs.TablesLaws.{reader-slot, writer-slot}
-use Rattle.before.specs.Before.{meetsIn, metIn, laterIn, syncIn, directIn, rowStep, pairStep, stepIn, stepsIn, Ordered}
-use Rattle.before.proofs.BeforeLaws.{steps-length, turned-mem}
+use Rattle.before.specs.Before.{meetsIn, metIn, laterIn, syncIn, directIn, rowStep, pairStep, stepIn, stepsIn, ClosedSteps}
+use Rattle.before.proofs.BeforeLaws.{steps-length, columns-mem}
 use Rattle.before.proofs.StepsLaws.{empty-at, steps-mem}
 use Rattle.front.specs.Tabled.{Tabled, Agents, Rowed, Paired, hbOf, Turned}
 use Rattle.front.proofs.TabledLaws.{at-first, at-second, at-cases}
@@ -208,7 +208,7 @@ module _ (x : Execution) (t : List ℕ) (n : ℕ) (tb : Tabled x t n) where
       long : length S ≡ slots
       long = steps-length t n q m p k (replicate slots 0) ∙ length-replicate {A = ℕ} slots 0
 
-      module _ (succ pred : List ℕ) (o : Ordered t n q m p k (replicate slots 0) succ (replicate slots 0) pred) where
+      module _ (succ pred : List ℕ) (o : ClosedSteps t n q m p k (replicate slots 0) succ (replicate slots 0) pred) where
         all-taken : taken n S ≡ length (x .events)
         all-taken = let z = tb .count in let y = tb .few in let l = long in omega arith
 
@@ -227,7 +227,7 @@ module _ (x : Execution) (t : List ℕ) (n : ℕ) (tb : Tabled x t n) where
         unfolding _or_
         ordered-turned e d =
             ap (λ (l : List ℕ). mem (getD l d 0) e) (o .turned)
-            ∙ turned-mem succ (replicate slots 0) (length-replicate {A = ℕ} slots 0) n d e
+            ∙ columns-mem succ (replicate slots 0) (length-replicate {A = ℕ} slots 0) n d e
             ∙ ap (λ (b : Bool). b or (ltb e (taken n succ) and (ltb d slots and mem (getD succ e 0) d))) (ap (λ (i : ℕ). mem i e) (empty-at d) ∙ mem-empty e)
             ∙ ap (λ (i : ℕ). ltb e i and (ltb d slots and mem (getD succ e 0) d)) succ-taken
             ∙ go (decLt e n) (decLt d n)

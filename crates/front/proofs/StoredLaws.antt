@@ -27,7 +27,7 @@ use Rattle.model.proofs.EventsLaws.{two-elim}
 use Rattle.model.proofs.Sound.{Sound}
 use Rattle.tables.specs.Tables.{agentIn, shapeIn, rowIn, seenIn, wroteIn, pairIn}
 use Rattle.front.specs.Tabled.{Double, Slotted, Agents}
-use Rattle.front.specs.Examples.{initial, reading, row, fillSlots, fillEvents, fillRows, tableOf, rowsOf, readsBoth, Met}
+use Rattle.front.specs.Examples.{initial, reading, aRow, fillSlots, fillEvents, fillRows, tableOf, rowsOf, readsBoth, Met}
 use Rattle.front.proofs.TabledLaws.{range-of, regions-apart, lookup-hit, lookup-miss}
 
 -- what an event with two accesses reads, one of them reads
@@ -54,13 +54,13 @@ reads-at zero n t = ⊎-elim (λ w. absurd (w .1)) (λ w. absurd (w .1)) (reads-
 reads-at (suc zero) n t = (refl, ⊎-elim (λ w. inl (byte-is _ 0 n refl refl (w .0))) (λ w. inr (byte-is _ 64 n refl refl (w .0))) (reads-one _ _ _ n t))
 reads-at (suc (suc e)) n t = absurd (subst T (readsAt-nobody n) t)
 
-of-rows : (F : Row → Type 0) → F (row 1 0 0) → F (row 1 64 0) → (r : Row) → List·Memᴰ r (x .rows) → F r
+of-rows : (F : Row → Type 0) → F (aRow 1 0 0) → F (aRow 1 64 0) → (r : Row) → List·Memᴰ r (x .rows) → F r
 of-rows F a b r (List·Memᴰ·head z) = subst F (sym z) a
 of-rows F a b r (List·Memᴰ·tail (List·Memᴰ·head z)) = subst F (sym z) b
 
 has : (e n : ℕ) → (e ≡ 1) → (0 ≡ n) ⊎ (64 ≡ n) → (r : Row) × List·Memᴰ r (x .rows) × (r .reader ≡ e) × (r .address ≡ n)
-has e n h (inl z) = (row 1 0 0, List·Memᴰ·head refl, sym h, z)
-has e n h (inr z) = (row 1 64 0, List·Memᴰ·tail (List·Memᴰ·head refl), sym h, z)
+has e n h (inl z) = (aRow 1 0 0, List·Memᴰ·head refl, sym h, z)
+has e n h (inr z) = (aRow 1 64 0, List·Memᴰ·tail (List·Memᴰ·head refl), sym h, z)
 
 init-is : (e : ℕ) → T (isInit (event x e)) → (e ≡ 0) ⊎ (2 ≤ e)
 unfolding event eventNo isInit

@@ -23,7 +23,7 @@ use Rattle.model.specs.Judged.{needed, lent, admitted, JudgedRefused, JudgedBro
 use Rattle.model.proofs.OrderLaws.{inits-others}
 use Rattle.model.proofs.JudgedLaws.{admitted-whole, whole-admitted}
 use Rattle.tables.specs.Tables.{columns, rowRoom, rowCells, pairRoom}
-use Rattle.before.specs.Before.{Ordered}
+use Rattle.before.specs.Before.{ClosedSteps}
 use Rattle.lay.specs.Lay.{Layered}
 use Rattle.answer.specs.declared.Rule.{Rule}
 use Rattle.answer.specs.declared.Rule.the-variants.{Kept, Breach}
@@ -86,7 +86,7 @@ module _ {s : List ℕ} {x : Sheet} {at : List ℕ} (h : HandedWhole s x at) whe
 
 module _ {s : List ℕ} {x : Sheet} {at : List ℕ} {need : ℕ} {scratch order : List ℕ} (a : Admits s x at need scratch order) {t q p : List ℕ}
     (ly : Layered s x at (replicate columns 0) t (replicate rowCells 0) q (replicate 64 0) p) {succ pred : List ℕ}
-    (o : Ordered t (min (x .events) slots) q (min (x .rows) rowRoom) p (min (x .pairs) pairRoom) (replicate slots 0) succ (replicate slots 0) pred) where
+    (o : ClosedSteps t (min (x .events) slots) q (min (x .rows) rowRoom) p (min (x .pairs) pairRoom) (replicate slots 0) succ (replicate slots 0) pred) where
   well : WellFormed (execution s x at)
   well = promise s (execution s x at) (admitted-whole s (length scratch) (length order) (execution s x at) (a .describes) .describes)
 

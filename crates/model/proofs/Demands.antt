@@ -32,7 +32,7 @@ use Rattle.model.specs.Rules.{faulty, fault}
 use Rattle.model.specs.Order.{problem}
 use Rattle.model.specs.Unsettled.{unsettledPair}
 use Rattle.model.specs.Judged.{needed, Breaks, settledOf, JudgedConsistent, Judged}
-use Rattle.model.specs.Demands.{IsRefused, IsConsistent, Result, Refuses, by-sheet, short-scratch, short-order, Demand1, Allowed, Meant, Demand2, Testable, Demand3, Agreement, SaysTheVerdict, OneVerdict, NeverShort, OneRowEach, Left, LeavesZero, FitsWord, SameWord, InitsFirst, FirstNamed, LowestPair, Reduction}
+use Rattle.model.specs.Demands.{IsRefused, IsConsistent, Result, Refuses, by-sheet, short-scratch, short-order, Demand1, Allowed, Meant, Demand2, Testable, Demand3, Agreement, SaysTheVerdict, OneVerdict, NeverShort, OneRowEach, Leaves, LeavesZero, FitsWord, SameWord, InitsFirst, FirstNamed, LowestPair, Reduction}
 use Rattle.model.proofs.Sound.{Sound, sound}
 use Rattle.model.proofs.UnsettledLaws.{none-orderly, orderly-none}
 use Rattle.model.proofs.Serial.{explains}
@@ -163,7 +163,7 @@ result s scratch order =
 
 left : (s scratch scratch′ : List ℕ) (y x : Execution) → y ≡ x → needed y ≤ length scratch → scratch′ ≡ cleared (needed y) scratch
     → (answer : Answer) (order order′ : List ℕ) → ((IsConsistent answer → ⊥) → order′ ≡ order)
-    → (IsConsistent answer → drop (length (x .events)) order′ ≡ drop (length (x .events)) order) → Left x scratch order answer scratch′ order′
+    → (IsConsistent answer → drop (length (x .events)) order′ ≡ drop (length (x .events)) order) → Leaves x scratch order answer scratch′ order′
 left s scratch scratch′ y x e fits c answer order order′ b d =
     let q : scratch′ ≡ cleared (needed x) scratch = c ∙ ap (λ (z : Execution). cleared (needed z) scratch) e in
     let f : needed x ≤ length scratch = subst (λ (z : Execution). needed z ≤ length scratch) e fits in

@@ -37,7 +37,7 @@ use Rattle.model.specs.Happens.{Tests}
 use Rattle.model.specs.Rules.{faulty}
 use Rattle.model.specs.Unsettled.{unsettledPair}
 use Rattle.model.specs.Judged.{admitted, settledOf, Judged}
-use Rattle.model.specs.Lowest.{Lowest, at-21, at-22, at-23, at-24, at-25, at-26}
+use Rattle.model.specs.Lowest.{LowestNames, at-21, at-22, at-23, at-24, at-25, at-26}
 use Rattle.model.proofs.Sound.{sound}
 use Rattle.model.proofs.HappensLaws.{reader-inside, writer-inside}
 use Rattle.model.proofs.UnsettledLaws.{unsettled-inside}
@@ -86,7 +86,7 @@ module _ (x : Execution) (wf : WellFormed x) where
         let h : n < shapeAt (event x e) n .start + shapeAt (event x e) n .width = ltb→lt _ _ (and-elim _ _ c .1) in
         omega (arith, h, i, wf .size .1)
 
-  lowest-fits : (hb : ℕ → ℕ → Bool) → Tests x hb → (n : ℕ) (names : Names) → Lowest x hb n names → (n < 256) × FourBelow 255 (namesOf names)
+  lowest-fits : (hb : ℕ → ℕ → Bool) → Tests x hb → (n : ℕ) (names : Names) → LowestNames x hb n names → (n < 256) × FourBelow 255 (namesOf names)
   lowest-fits hb tests n names (at-21 j b t l) =
       let r = reader-below j b in let w = writer-below j b in let a = address-below j b in
       (omega arith, record { first = omega arith; second = omega arith; third = tt; fourth = omega arith })

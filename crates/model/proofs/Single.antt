@@ -33,15 +33,15 @@ use Rattle.model.specs.Rules.{breaks24, untorn, untornFrom, breaks25}
 use Rattle.model.specs.Bar.{barA, barB, barC, rowBars}
 use Rattle.model.specs.Order.{problem}
 use Rattle.model.specs.Unsettled.{clash, unsettled}
-use Rattle.model.specs.Sentences.{firstShape, shape, OneAccess, sync01, init01, between01, torn01, bars01, unsettled01, Meets01, Reduced}
+use Rattle.model.specs.Sentences.{firstShape, shape, OneAccessEach, sync01, init01, between01, torn01, bars01, unsettled01, Meets01, Reduced}
 use Rattle.model.proofs.Sound.{Sound}
 use Rattle.model.proofs.BarLaws.{row-bars, bars-row, bar-elim, bar-intro}
 use Rattle.model.proofs.OrderLaws.{distinct-apart}
 
-pub one-access : (x : Execution) → WellFormed x → OneAccess x
+pub one-access : (x : Execution) → WellFormed x → OneAccessEach x
 one-access x wf e h = let w = wf .events e h in (w .access, w .one-access)
 
-module _ (x : Execution) (each-one : OneAccess x) where
+module _ (x : Execution) (each-one : OneAccessEach x) where
   shape-inside : (e : ℕ) (h : e < length (x .events)) → shape x e ≡ each-one e h .0 .shape
   unfolding shape firstShape
   shape-inside e h = ap firstShape (each-one e h .1)

@@ -2,7 +2,7 @@
 ghost use mathlib.Core.Path.{_≡_};
 ghost use Prim.Native.Nat.{_≤_};
 ghost use lib.ListN.{length, take};
-ghost use Rattle.tell.specs.Told.{placed, Told};
+ghost use Rattle.tell.specs.JudgedLine.{placed, JudgedLine};
 
 // The buffers that are enough for every sheet (`Enough`, specs/Demands.antt). One byte more than the longest sheet, so that a longer one is seen.
 pub const SHEET_BYTES: usize = 4097;
@@ -36,7 +36,7 @@ fn count(order: &[u8]) -> usize
 
 // Judges the sheet and writes the line of its answer; returns the line's length, 0 where it does not fit. The order buffer is lent full of `UNUSED`.
 pub fn tell(sheet: &[u8], scratch: &mut [u8], order: &mut [u8], out: &mut [u8]) -> usize
-    ensures { λ r. ⌜ Told (now (sheet .entry)) (now (scratch .entry)) (now (order .entry)) (now (out .entry)) r (now (scratch .exit)) (now (order .exit)) (now (out .exit)) ⌝ }
+    ensures { λ r. ⌜ JudgedLine (now (sheet .entry)) (now (scratch .entry)) (now (order .entry)) (now (out .entry)) r (now (scratch .exit)) (now (order .exit)) (now (out .exit)) ⌝ }
 {
     let answer = judge::judge(sheet, scratch, order);
     let n = count(order);

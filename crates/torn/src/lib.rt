@@ -14,7 +14,7 @@ ghost use Prim.Native.Nat.{_%_, min};
 ghost use Rattle.sets.specs.Mask.{slots};
 ghost use Rattle.cells.specs.First.{firstOf};
 ghost use Rattle.tables.specs.Tables.{rowRoom};
-ghost use Rattle.torn.specs.Torn.{untornIn, rowGains, sourcesIn, twoIn, pairIn, pairs, tornIn, namedIn, rule25In};
+ghost use Rattle.torn.specs.Torn.{untornIn, sourceGains, sourcesIn, twoIn, twoSourcesIn, pairs, tornIn, namedIn, rule25In};
 
 // Two events as one number, the first times 32 plus the second.
 const PAIRS: usize = 1024;
@@ -30,7 +30,7 @@ fn untorn(t: &[u8; COLUMNS], r: Row) -> bool
 
 // The mask of the reader's access gains the writer, where the row is untorn.
 fn note_row(t: &[u8; COLUMNS], r: Row, masks: &mut [u32])
-    ensures { λ _. ⌜ now (masks .exit) ≡ rowGains (now (t .entry)) r (now (masks .entry)) ⌝ }
+    ensures { λ _. ⌜ now (masks .exit) ≡ sourceGains (now (t .entry)) r (now (masks .entry)) ⌝ }
 {
     if !untorn(t, r) {
         return;
@@ -63,7 +63,7 @@ fn two(m: u32) -> usize
 
 // The lowest two sources that one of event e's accesses has.
 fn pair(s: &[u32; ACCESSES], e: usize) -> usize
-    ensures { λ r. ⌜ r ≡ firstOf (pairIn (now (s .entry)) (e % slots)) pairs ⌝ }
+    ensures { λ r. ⌜ r ≡ firstOf (twoSourcesIn (now (s .entry)) (e % slots)) pairs ⌝ }
 {
     let k = 2 * (e % SLOTS);
     least(two(s[k]), two(s[k + 1]))

@@ -110,7 +110,7 @@ fn syncs(t: &[u8; COLUMNS], r: Row) -> bool
     ensures { λ b. ⌜ b ≡ syncIn (now (t .entry)) r ⌝ }
 {
     let w = tables::at(t, r.writer as usize, r.address);
-    if w.mode != 2 {
+    if !access::sc(w) {
         return false;
     }
     access::both_sc(w, tables::at(t, r.reader as usize, r.address))

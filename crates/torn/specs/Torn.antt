@@ -42,7 +42,7 @@ unfoldable pub twoSourcesIn : List ℕ → ℕ → ℕ → Bool
 twoSourcesIn s e p = twoIn (getD s (2 * e) 0) p or twoIn (getD s (2 * e + 1) 0) p
 
 abbrev pub pairs : ℕ
-pairs = 1024
+pairs = slots * slots
 
 unfoldable pub tornIn : List ℕ → ℕ → Bool
 tornIn s e = ltb (firstOf (twoSourcesIn s e) pairs) pairs

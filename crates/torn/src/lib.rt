@@ -16,8 +16,8 @@ ghost use Rattle.cells.specs.First.{firstOf};
 ghost use Rattle.tables.specs.Tables.{rowRoom};
 ghost use Rattle.torn.specs.Torn.{untornIn, sourceGains, sourcesIn, twoIn, twoSourcesIn, pairs, tornIn, namedIn, rule25In};
 
-// Two events as one number, the first times 32 plus the second.
-const PAIRS: usize = 1024;
+// Two events as one number, the first times the slots plus the second.
+const PAIRS: usize = SLOTS * SLOTS;
 
 // Are both ends of the row tear-free, with equal ranges?
 fn untorn(t: &[u8; COLUMNS], r: Row) -> bool
@@ -25,7 +25,7 @@ fn untorn(t: &[u8; COLUMNS], r: Row) -> bool
 {
     let a = tables::shape(t, tables::slot_at(t, r.reader as usize, r.address));
     let b = tables::shape(t, tables::slot_at(t, r.writer as usize, r.address));
-    (a.tear == 1) & ((b.tear == 1) & access::equal(a, b))
+    access::tear_free(a) & (access::tear_free(b) & access::equal(a, b))
 }
 
 // The mask of the reader's access gains the writer, where the row is untorn.
@@ -49,7 +49,7 @@ fn sources(t: &[u8; COLUMNS], q: &[u8; ROW_CELLS], n: usize, masks: &mut [u32])
     }
 }
 
-// The two lowest members of a set, as one number; 1024 where it has fewer.
+// The two lowest members of a set, as one number; `PAIRS` where it has fewer.
 fn two(m: u32) -> usize
     ensures { λ r. ⌜ r ≡ firstOf (twoIn m) pairs ⌝ }
 {

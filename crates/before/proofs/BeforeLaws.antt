@@ -29,7 +29,8 @@ use Rattle.cells.proofs.WalkLaws.{upTo-more, mem-picked}
 use Rattle.cells.proofs.CellsLaws.{gaining-length, gaining-mem, scatter-length, scatter-mem, placing-length}
 use Rattle.tables.specs.Tables.{agentRoom, agentIn, rowIn, pairIn}
 use Rattle.tables.proofs.TablesLaws.{agent-place}
-use Rattle.before.specs.Before.{metIn, laterIn, ownIn, agentsIn, behindIn, ownBy, syncIn, syncGains, rowStepsIn, pairGains, pairStepsIn, stepsIn, turnAt, columnsIn, ClosedSteps}
+use Rattle.before.specs.Before.{metIn, laterIn, ownIn, syncIn, syncGains, rowStepsIn, pairGains, pairStepsIn, stepsIn, turnAt, columnsIn, ClosedSteps}
+use Rattle.before.specs.steps.Own.{agentsIn, behindIn, ownBy}
 
 -- ---- masks of events
 

@@ -2,7 +2,6 @@
 --     meetsIn t e d             an access of e and one of d share a byte           metIn t e d      and d is another event
 --     laterIn t e d             d is a later event of e's agent
 --     ownIn t n e               an init's mask: what it meets; another event's: what is later
---     agentsIn, behindIn, ownBy     the same by a mask for each agent
 --     syncIn t r                the row's two accesses at its byte are both sc with equal ranges
 --     rowStepsIn, pairStepsIn   the masks with the steps of the first rows, of the first pairs
 --     stepsIn                   all direct steps                                   columnsIn        the masks with the columns
@@ -12,15 +11,14 @@
 use mathlib.Core.Path.{_≡_}
 use mathlib.Core.Bool.{Bool, cond}
 use mathlib.Core.List.{List}
-use Prim.Native.Nat.{ℕ, _+_, _-_, _%_, _^_, min}
-use lib.Bits.{bitAnd}
+use Prim.Native.Nat.{ℕ, _%_}
 use lib.Dec.{eqb, ltb}
 use lib.ListN.{getD}
 use Rattle.basis.specs.Test.{_and_, _or_, non, any, from}
 use Rattle.format.specs.declared.Row.{Row}
 use Rattle.format.specs.declared.Pair.{Pair}
 use Rattle.format.specs.Shape.{overlap, bothSc}
-use Rattle.sets.specs.Mask.{slots, full}
+use Rattle.sets.specs.Mask.{slots}
 use Rattle.sets.specs.Closure.{taken, Closed}
 use Rattle.cells.specs.Walk.{upTo, picked}
 use Rattle.cells.specs.Cells.{gaining, scatter, placing}
@@ -39,16 +37,6 @@ laterIn t e d = eqb (agentIn t e) (agentIn t d) and ltb e d
 
 unfoldable pub ownIn : List ℕ → ℕ → ℕ → ℕ
 ownIn t n e = cond (eqb (agentIn t e) 0) (picked n (metIn t e)) (picked n (laterIn t e))
-
--- the same by masks: each agent's events, and those of e's agent behind e
-unfoldable pub agentsIn : List ℕ → ℕ → List ℕ → List ℕ
-agentsIn t n l = upTo (λ (e : ℕ) (m : List ℕ). gaining m (agentIn t e) e) n l
-
-unfoldable pub behindIn : List ℕ → List ℕ → ℕ → ℕ
-behindIn t by e = bitAnd (getD by (agentIn t e) 0) (2 ^ slots - 1 - full (min (e + 1) slots))
-
-unfoldable pub ownBy : List ℕ → ℕ → List ℕ → ℕ → ℕ
-ownBy t n by e = cond (eqb (agentIn t e) 0) (picked n (metIn t e)) (behindIn t by e)
 
 -- ---- what rows and pairs add
 

@@ -19,7 +19,8 @@ ghost use Rattle.sets.specs.Mask.{slots};
 ghost use Rattle.cells.specs.Walk.{picked};
 ghost use Rattle.cells.specs.Cells.{placing};
 ghost use Rattle.tables.specs.Tables.{rowRoom, pairRoom};
-ghost use Rattle.before.specs.Before.{meetsIn, metIn, ownIn, agentsIn, behindIn, ownBy, syncIn, syncGains, rowStepsIn, pairGains, pairStepsIn, stepsIn, columnsIn, ClosedSteps};
+ghost use Rattle.before.specs.Before.{meetsIn, metIn, ownIn, syncIn, syncGains, rowStepsIn, pairGains, pairStepsIn, stepsIn, columnsIn, ClosedSteps};
+ghost use Rattle.before.specs.steps.Own.{agentsIn, behindIn, ownBy};
 
 // ---- what two events make by themselves
 

@@ -42,7 +42,7 @@ use Rattle.bars.specs.Bars.{filledIn}
 use Rattle.settle.specs.Settle.{settledIn}
 use Rattle.front.specs.Tabled.{hbOf}
 use Rattle.front.proofs.SheetLaws.{held-bars, held-settled}
-use Rattle.judge.specs.Admitted.{Unbroken}
+use Rattle.judge.specs.steps.Admitted.{Unbroken}
 
 module _ {s : List ℕ} {k n m : ℕ} {t q succ pred scratch order bars : List ℕ} (u : Unbroken s k n m t q succ pred scratch order)
     (f : bars ≡ filledIn t (min n slots) succ pred q (min m rowRoom) (replicate (slots * slots) 0)) where

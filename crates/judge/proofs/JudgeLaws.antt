@@ -31,7 +31,7 @@ use Rattle.rules.specs.Rules.{ruleIn}
 use Rattle.front.specs.Tabled.{hbOf, foundOf}
 use Rattle.front.proofs.LaidLaws.{laid-count}
 use Rattle.front.proofs.SheetLaws.{sheet-held, sheet-rules}
-use Rattle.judge.specs.Admitted.{Admits, Unbroken}
+use Rattle.judge.specs.steps.Admitted.{Admits, Unbroken}
 
 -- a sheet that the reader refuses
 pub refused-sheet : {s scratch order : List ℕ} {n p : ℕ} → parse s ≡ refused n p → JudgedRefused s scratch order n p scratch order

@@ -10,7 +10,7 @@ use tables::PAIR_CELLS;
 use tables::ROW_CELLS;
 ghost use Rattle.sheet.specs.Handed.{HandedWhole};
 ghost use Rattle.model.specs.Judged.{Judged};
-ghost use Rattle.judge.specs.Admitted.{Admits, Unbroken};
+ghost use Rattle.judge.specs.steps.Admitted.{Admits, Unbroken};
 
 // How many masks of bars there are: one for each V and W.
 const BARS: usize = SLOTS * SLOTS;

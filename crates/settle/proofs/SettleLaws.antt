@@ -26,7 +26,8 @@ use Rattle.cells.specs.Walk.{picked}
 use Rattle.cells.proofs.FirstLaws.{first-found, Left, left-start, left-lowest, left-hit, left-end, first-past, first-below}
 use Rattle.cells.proofs.WalkLaws.{mem-picked}
 use Rattle.tables.proofs.TablesLaws.{overlap-left, overlap-right}
-use Rattle.settle.specs.Settle.{clashing, clashIn, aheadIn, freeIn, openIn, partnerIn, looseIn, settledIn}
+use Rattle.settle.specs.Settle.{clashing, clashIn, openIn, partnerIn, looseIn, settledIn}
+use Rattle.settle.specs.steps.Ahead.{aheadIn, freeIn}
 
 -- what overlaps nothing clashes with nothing
 clash-none : (a b : Shape) → overlap a b ≡ false → clashing a b ≡ false

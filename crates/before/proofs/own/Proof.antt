@@ -7,7 +7,8 @@ use denote.Ref.{now}
 use Rattle.sets.specs.Mask.{slots}
 use Rattle.cells.specs.Walk.{picked}
 use Rattle.tables.specs.Tables.{agentIn}
-use Rattle.before.specs.Before.{metIn, behindIn, ownBy}
+use Rattle.before.specs.Before.{metIn}
+use Rattle.before.specs.steps.Own.{behindIn, ownBy}
 use borrow.Author.Needs.{needs}
 use Rattle.before.proofs.own.Statement.{statement}
 use Rattle.before.proofs.own.Tie as tie

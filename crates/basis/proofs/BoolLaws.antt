@@ -7,17 +7,17 @@
 --     and-holds, and-fails, or-holds, or-fails       a test that is known, on the left
 --     and-true, and-false, or-none                   and on the right
 --     and-swap, and-assoc, or-assoc
---     and-both, or-either, cond-cases                a test that passed, taken apart
+--     and-both, or-either, cond-cases, cond-and      a test that passed, taken apart; a choice in a choice
 --     both-hold, or-second                           and put together
 --     non-true, non-false, non-holds, non-fails
 --     and-parts, and-not-left, not-both              of `&&`           bar-cases, bar-left, bar-right     of `||`
 -- as facts:
---     and-elim, and-intro, or-cases, or-left, or-right, non-elim, non-intro, decide, same-test
+--     and-elim, and-intro, or-cases, or-left, or-right, or-sym, non-elim, non-intro, decide, cond-true, cond-false, same-test
 -- of numbers:
 --     eqb-self, eqb-swap, below-next                 a number and itself; two numbers turned round; one number more below a bound
 use mathlib.Core.Path.{_≡_, refl, sym, ap, _∙_}
 use mathlib.Core.Bool.{Bool, true, false, not, _&&_, _||_, cond, false≢true}
-use mathlib.Core.Logic.{_⊎_, inl, inr}
+use mathlib.Core.Logic.{_⊎_, inl, inr, ⊎-elim}
 use Prim.Native.Nat.{ℕ, suc, _<_}
 use native.Mathlib.Omega.{arith}
 use native.Mathlib.Decide.{ℕ-discrete, decLt}
@@ -141,6 +141,11 @@ pub cond-cases : (b x y : Bool) → cond b x y ≡ true → ((b ≡ true) × (x 
 cond-cases true x y h = inl (refl, h)
 cond-cases false x y h = inr (refl, h)
 
+pub cond-and : {A : Type 0} (x y : Bool) (a b : A) → cond x (cond y a b) b ≡ cond (x and y) a b
+unfolding _and_
+cond-and true y a b = refl
+cond-and false y a b = refl
+
 -- and put together
 pub both-hold : (a b : Bool) → a ≡ true → b ≡ true → (a and b) ≡ true
 both-hold a b p q = and-holds a b p ∙ q
@@ -209,6 +214,9 @@ or-left a b t = true-T _ (or-holds a b (T-true a t))
 pub or-right : (a b : Bool) → T b → T (a or b)
 or-right a b t = true-T _ (or-second a b (T-true b t))
 
+pub or-sym : (a b : Bool) → T (a or b) → T (b or a)
+or-sym a b t = ⊎-elim (or-right b a) (or-left b a) (or-cases a b t)
+
 pub non-elim : (a : Bool) → T (non a) → T a → ⊥
 non-elim a s = false-T a (non-true a (T-true _ s))
 
@@ -218,6 +226,14 @@ non-intro a f = true-T _ (non-holds a (T-false a f))
 pub decide : (b : Bool) → T b ⊎ (T b → ⊥)
 decide true = inl tt
 decide false = inr (λ t. t)
+
+pub cond-true : {A : Type 0} (b : Bool) (m n : A) → T b → cond b m n ≡ m
+cond-true true m n t = refl
+cond-true false m n t = absurd t
+
+pub cond-false : {A : Type 0} (b : Bool) (m n : A) → (T b → ⊥) → cond b m n ≡ n
+cond-false true m n t = absurd (t tt)
+cond-false false m n t = refl
 
 -- two tests that pass together are one
 pub same-test : (a b : Bool) → (T a → T b) → (T b → T a) → a ≡ b

@@ -3,22 +3,14 @@
 --     last-writer     a byte holds what the last event that writes it wrote
 use mathlib.Core.Path.{_≡_, refl, sym, _∙_, ap, subst}
 use mathlib.Core.Logic.{inl, inr}
-use mathlib.Core.Bool.{Bool, true, false, cond}
 use mathlib.Core.List.{List, [], _∷_}
 use Prim.Native.Nat.{ℕ}
 use lib.Dec.{T}
+use Rattle.basis.proofs.BoolLaws.{cond-true, cond-false}
 use Rattle.format.specs.Event.{writesAt, wrote}
 use Rattle.format.specs.Execution.{Execution, event}
 use Rattle.orders.specs.Order.{In, Precedes}
 use Rattle.model.specs.Memory.{memoryAfter, run}
-
-cond-true : (b : Bool) (m n : ℕ) → T b → cond b m n ≡ m
-cond-true true m n t = refl
-cond-true false m n t = absurd t
-
-cond-false : (b : Bool) (m n : ℕ) → (T b → ⊥) → cond b m n ≡ n
-cond-false true m n t = absurd (t tt)
-cond-false false m n t = refl
 
 module _ (x : Execution) (n : ℕ) where
   pub untouched : (o : List ℕ) (m : ℕ → ℕ) → ((v : ℕ) → In v o → T (writesAt (event x v) n) → ⊥) → run x m o n ≡ m n

@@ -2,5 +2,3 @@ pub mod BoolLaws
 pub mod ListLaws
 pub mod LoopLaws
 pub mod FindLaws
-pub mod TestLaws
-pub mod SortedLaws

@@ -18,10 +18,7 @@ use lib.ListN.{length, getD, drop, drop-of-length-le}
 use lib.Seq.{drop-cons}
 use borrow.Author.Tests.{ne-eqb}
 use Rattle.basis.specs.Test.{_and_, _or_, non, any, all, number, each, from}
-use Rattle.basis.proofs.BoolLaws.{or-cases, or-left, or-right, or-assoc}
--- passed on for crates that have not moved yet
-pub use Rattle.basis.proofs.BoolLaws.{true-T, T-true, false-T, T-false, and-holds, and-fails, or-holds, or-fails, or-none, and-both, or-either, cond-cases, both-hold, or-second, non-holds, non-true, non-false}
-pub use Rattle.basis.proofs.FindLaws.{find-none-left, find-found, find-more}
+use Rattle.basis.proofs.BoolLaws.{true-T, T-true, T-false, or-cases, or-left, or-right, or-none, or-assoc, both-hold}
 use Rattle.basis.proofs.ListLaws.{from-next}
 
 module _ {A : Type 0} where

@@ -11,7 +11,7 @@ use lib.Dec.{leb}
 use lib.ListN.{length, getD, set, take, drop, length-set}
 use lib.Seq.{getD-take, take-take}
 use Rattle.basis.specs.Test.{_and_}
-use Rattle.basis.proofs.LoopLaws.{and-both}
+use Rattle.basis.proofs.BoolLaws.{and-both}
 use Rattle.format.specs.Field.{lengthAt, valueAt}
 use Rattle.format.specs.Layout.{rowOf}
 use Rattle.sheet.specs.declared.Sheet.{Sheet}

@@ -9,8 +9,8 @@ use Prim.Native.Nat.{ℕ, _-_, _^_, _<_, _≤_}
 use native.Mathlib.Omega.{arith}
 use native.Mathlib.Decide.{decLt}
 use lib.Bits.{bitAnd}
+use Rattle.basis.proofs.BoolLaws.{not-both-ways, false-of, and-parts}
 use Rattle.sets.specs.Mask.{slots, mem, Has, remove, full, Lowest}
-use Rattle.sets.proofs.BoolLaws.{not-both-ways, false-of, and-parts}
 use Rattle.sets.proofs.MaskLaws.{mem-and, mem-empty, mem-lt, mem-diff, mem-full, full-has, lt-of-members, remove-le, remove-old, remove-cases}
 use Rattle.orders.specs.Problem.{Problem}
 use Rattle.orders.specs.Step.{Ready}

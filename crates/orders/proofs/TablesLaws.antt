@@ -13,8 +13,8 @@ use native.Mathlib.Omega.{arith}
 use native.Mathlib.Decide.{ℕ-discrete}
 use lib.Bits.{bitAnd, bitOr, and-le-l}
 use lib.ListN.{getD}
+use Rattle.basis.proofs.BoolLaws.{not-both-ways, and-parts, bar-left as or-left, bar-right as or-right}
 use Rattle.sets.specs.Mask.{slots, mem, Has, Within, insert, remove, full, Lowest}
-use Rattle.sets.proofs.BoolLaws.{not-both-ways, and-parts, or-left, or-right}
 use Rattle.sets.proofs.MaskLaws.{mem-lt, mem-and, mem-or, mem-empty, mem-full, remove-le, remove-old, remove-cases, insert-new, insert-old, insert-cases, full-has}
 use Rattle.orders.specs.Problem.{Problem}
 use Rattle.orders.specs.Step.{With, Below, Ready}

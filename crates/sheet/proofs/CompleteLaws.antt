@@ -13,8 +13,9 @@ use borrow.Author.Tests.{eq-eqb}
 use lib.Dec.{eqb}
 use lib.ListN.{length, getD, drop}
 use Rattle.basis.specs.Test.{_and_, non, any, find, from}
+use Rattle.basis.proofs.BoolLaws.{or-none}
 use Rattle.basis.proofs.ListLaws.{from-length, from-at}
-use Rattle.basis.proofs.LoopLaws.{or-none, find-none-left, find-found, find-more}
+use Rattle.basis.proofs.FindLaws.{find-none-left, find-found, find-more}
 use Rattle.format.specs.Shape.{reads}
 use Rattle.format.specs.Event.{Event}
 use Rattle.format.specs.Execution.{Execution, eventNo}

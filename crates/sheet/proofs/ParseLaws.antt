@@ -12,8 +12,7 @@ use borrow.Author.Tests.{ltb-true, ltb-false, leb-true, eqb-true, ne-eqb, le-ltb
 use lib.Dec.{T, ltb, leb, eqb}
 use lib.ListN.{length, length-take, length-drop}
 use Rattle.basis.specs.Test.{_and_, non}
-use Rattle.basis.proofs.TestLaws.{and-elim}
-use Rattle.basis.proofs.LoopLaws.{true-T, T-true, non-false}
+use Rattle.basis.proofs.BoolLaws.{and-elim, true-T, T-true, non-false}
 use Rattle.format.specs.Limits.{maxBytes}
 use Rattle.format.specs.Execution.{Execution}
 use Rattle.format.specs.Field.{fieldBytes, tagAt, lengthAt, nextAt, valueAt}

@@ -6,7 +6,7 @@ use borrow.Author.Tests.{le-leb, lt-leb}
 use lib.Dec.{leb}
 use lib.ListN.{length}
 use denote.Ref.{now}
-use Rattle.basis.proofs.LoopLaws.{and-holds, and-fails}
+use Rattle.basis.proofs.BoolLaws.{and-holds, and-fails}
 use borrow.Author.Needs.{needs}
 use Rattle.lay.proofs.has.Statement.{statement}
 use Rattle.lay.proofs.has.Tie as tie

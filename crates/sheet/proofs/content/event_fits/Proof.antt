@@ -3,7 +3,7 @@ use mathlib.Core.Path.{_≡_, sym, ap, _∙_}
 use mathlib.Core.Bool.{true, false}
 use denote.Ref.{now}
 use borrow.Author.Tests.{not-true, not-false}
-use Rattle.basis.proofs.LoopLaws.{and-holds, and-fails, or-holds, or-fails}
+use Rattle.basis.proofs.BoolLaws.{and-holds, and-fails, or-holds, or-fails}
 use Rattle.sheet.specs.Content.{eventFits, inside, formed, standsFirst}
 use Rattle.sheet.specs.Handed.{eventsIn}
 -- `sheet::content::event_fits` meets its contract, test by test. Assumes nothing.

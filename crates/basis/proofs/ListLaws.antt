@@ -1,5 +1,6 @@
 -- Laws of lists that the kit lacks. Assumes nothing.
 --     part-short, part-none         a part that is cut off by the list's end
+--     part-front                    a part of a list's front
 --     front-at, front-past, front-length     a mapped front of a list
 --     from-length, from-at, from-mem, from-elim, from-next     the numbers from a start on; one more
 --     last-at, snoc-split, each-snoc, two-snoc     a list with one entry more
@@ -13,7 +14,7 @@ use mathlib.Core.List.{List, [], _∷_, _++_, map, List·Memᴰ, List·Memᴰ·h
 use Prim.Native.Nat.{ℕ, zero, suc, _+_, _-_, _≤_, _<_}
 use native.Mathlib.Omega.{arith}
 use lib.ListN.{length, getD, take, drop, replicate, length-drop, length-take, length-map, drop-of-length-le, length-append, List·getD-append, List·getD-eq-default}
-use lib.Seq.{take-all, take-nil, getD-take, getD-append-seam}
+use lib.Seq.{take-all, take-nil, take-take, getD-take, getD-append-seam}
 use native.Mathlib.Nat.{eq-or-lt-of-le}
 use Rattle.basis.specs.Test.{each, across, from}
 
@@ -23,6 +24,12 @@ part-short s a n h =
 
 pub part-none : (s : List ℕ) (a n : ℕ) → length s ≤ a → _≡_ {A = List ℕ} [] (take n (drop a s))
 part-none s a n h = rw (drop-of-length-le s {i = a} h, take-nil)
+
+pub part-front : (w m n : ℕ) (s : List ℕ) → m + w ≤ n → take w (drop m (take n s)) ≡ take w (drop m s)
+part-front w zero n s h = take-take w n s (omega arith)
+part-front w (suc m) zero s h = absurd (omega arith)
+part-front w (suc m) (suc n) [] h = refl
+part-front w (suc m) (suc n) (a ∷ s) h = part-front w m n s (omega arith)
 
 at-mapped {ℓ} : {A : Type ℓ} (f : ℕ → A) (l : List ℕ) (i : ℕ) (d : A) → i < length l → getD (map f l) i d ≡ f (getD l i 0)
 at-mapped f [] i d h = absurd (omega arith)

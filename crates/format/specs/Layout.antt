@@ -1,7 +1,9 @@
--- What stands where in the value of a field (01, the table of tags; the layout of an edition is made here and nowhere else).
---     headBytes, eventBytes, rowBytes, pairBytes     the bytes of a value, of an event's those before its data
+-- What stands where in the value of a field, by the head's edition (01, the table of tags; the layout of an edition is made here and nowhere else).
+-- Laws: proofs/LayoutLaws.antt. docs/SHEET.md draws it.
+--     headBytes, eventBytes, rowBytes, pairBytes     the bytes of a value; of an event's those before its data
+--     dataBytes                                      the bytes of its data
 --     rowGap, pairGap                                the bytes from one row's, one pair's tag to the next
---     headOf, agentOf, shapeOf, accessOf, eventOf, rowOf, pairOf     a value as what it describes
+--     editionOf, headOf, agentOf, shapeOf, accessOf, eventOf, rowOf, pairOf     a value as what it describes
 -- Assumes nothing.
 use mathlib.Core.Bool.{Bool, cond}
 use mathlib.Core.List.{List, [], _∷_}
@@ -16,22 +18,25 @@ use Rattle.format.specs.Shape.{reads, tearOf}
 use Rattle.format.specs.Event.{Access, Event}
 use Rattle.format.specs.Field.{fieldBytes}
 
--- 01: "1 head: edition (1), agents (1 to 8), memory size in bytes (1 to 64)"
-abbrev pub headBytes : ℕ
-headBytes = 3
+-- 01: "1 head: edition (1), agents (1 to 8), memory size in bytes (1 to 64)". Its first byte is the edition, in every edition.
+abbrev pub editionOf : List ℕ → ℕ
+editionOf v = getD v 0 0
 
-abbrev pub headOf : List ℕ → Head
-headOf v = record { edition = getD v 0 0; agents = getD v 1 0; size = getD v 2 0 }
+unfoldable pub headBytes : ℕ → ℕ
+headBytes edition = 3
 
--- 01: "2 event: agent, kind, mode, start, width, then data". The bytes before the data depend on the edition (02 §4).
+abbrev pub headOf : ℕ → List ℕ → Head
+headOf edition v = record { edition = editionOf v; agents = getD v 1 0; size = getD v 2 0 }
+
+-- 01: "2 event: agent, kind, mode, start, width, then data"
 unfoldable pub eventBytes : ℕ → ℕ
 eventBytes edition = 5
 
 abbrev pub agentOf : List ℕ → ℕ
 agentOf v = getD v 0 0
 
-abbrev pub shapeOf : List ℕ → Shape
-shapeOf v =
+abbrev pub shapeOf : ℕ → List ℕ → Shape
+shapeOf edition v =
     record {
       kind = getD v 1 0;
       mode = getD v 2 0;
@@ -40,33 +45,37 @@ shapeOf v =
       tear = tearOf (getD v 1 0) (getD v 2 0) (getD v 3 0) (getD v 4 0);
     }
 
+-- 01: "Data is width bytes for a read .. and a write; twice the width for kind 3 ..; none for a marker." (A marker's width is 0.)
+unfoldable pub dataBytes : Shape → ℕ
+dataBytes a = cond (eqb (a .kind) 3) (a .width + a .width) (a .width)
+
 -- what was seen: the first width bytes of the data of a read or a read-modify-write
 unfoldable pub seenOf : ℕ → List ℕ → List ℕ
-seenOf edition v = cond (reads (shapeOf v)) (take (shapeOf v .width) (drop (eventBytes edition) v)) []
+seenOf edition v = cond (reads (shapeOf edition v)) (take (shapeOf edition v .width) (drop (eventBytes edition) v)) []
 
--- what was written: the data of a write; of a read-modify-write what stands behind the bytes seen
+-- what was written: the first width bytes of the data of a write; of a read-modify-write those behind the bytes seen
 unfoldable pub writtenOf : ℕ → List ℕ → List ℕ
 writtenOf edition v =
-    cond (eqb (shapeOf v .kind) 2) (drop (eventBytes edition) v)
-    (cond (eqb (shapeOf v .kind) 3) (drop (eventBytes edition + shapeOf v .width) v) [])
+    cond (eqb (shapeOf edition v .kind) 2) (take (shapeOf edition v .width) (drop (eventBytes edition) v))
+    (cond (eqb (shapeOf edition v .kind) 3) (take (shapeOf edition v .width) (drop (eventBytes edition + shapeOf edition v .width) v)) [])
 
 abbrev pub accessOf : ℕ → List ℕ → Access
-accessOf edition v = record { shape = shapeOf v; seen = seenOf edition v; written = writtenOf edition v }
+accessOf edition v = record { shape = shapeOf edition v; seen = seenOf edition v; written = writtenOf edition v }
 
 abbrev pub eventOf : ℕ → List ℕ → Event
 eventOf edition v = record { agent = agentOf v; accesses = accessOf edition v ∷ [] }
 
--- 01: "3 row: reader, address, writer". A row's bytes depend on the edition (02 §11), and so does the gap, here alone.
+-- 01: "3 row: reader, address, writer"
 unfoldable pub rowBytes : ℕ → ℕ
 rowBytes edition = 3
 
 abbrev pub rowGap : ℕ → ℕ
 rowGap edition = fieldBytes + rowBytes edition
 
-abbrev pub rowOf : List ℕ → Row
-rowOf v = record { reader = getD v 0 0; address = getD v 1 0; writer = getD v 2 0 }
+abbrev pub rowOf : ℕ → List ℕ → Row
+rowOf edition v = record { reader = getD v 0 0; address = getD v 1 0; writer = getD v 2 0 }
 
--- 01: "4 pair: marker, marker"
+-- 01: "4 pair: marker, marker", in every edition
 abbrev pub pairBytes : ℕ
 pairBytes = 2
 

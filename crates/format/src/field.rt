@@ -2,7 +2,10 @@
 ghost use mathlib.Core.Path.{_≡_};
 ghost use Prim.Native.Nat.{_+_};
 ghost use lib.ListN.{getD};
-ghost use Rattle.format.specs.Field.{lengthAt, valueAt};
+ghost use Rattle.format.specs.Field.{lengthAt, valueAt, restAt};
+
+// The bytes before a field's value: its tag and its length.
+pub const FIELD_BYTES: usize = 3;
 
 // The byte at a place, 0 past the end.
 pub fn byte(s: &[u8], at: usize) -> u8
@@ -23,7 +26,7 @@ pub fn value_at(s: &[u8], at: u32) -> &[u8]
     ensures { λ r. ⌜ now r ≡ valueAt (now (s .entry)) at ⌝ }
 {
     let len = length_at(s, at) as usize;
-    let start = at as usize + 3;
+    let start = at as usize + FIELD_BYTES;
     if start <= s.len() {
         if len <= s.len() - start {
             &s[start..start + len]
@@ -33,4 +36,12 @@ pub fn value_at(s: &[u8], at: u32) -> &[u8]
     } else {
         &s[..0]
     }
+}
+
+// The sheet from the value of the field at a place on.
+pub fn rest_at(s: &[u8], at: u32) -> &[u8]
+    ensures { λ r. ⌜ now r ≡ restAt (now (s .entry)) at ⌝ }
+{
+    let from = at as usize + FIELD_BYTES;
+    if from <= s.len() { &s[from..] } else { &s[..0] }
 }

@@ -1,6 +1,5 @@
 // The format of sheets: what stands in a field, and what an access is.
 pub mod field;
-pub mod layout;
 
 // The limits of a sheet (specs/Limits.antt), named once for the code too.
 pub const MAX_BYTES: usize = 4096;

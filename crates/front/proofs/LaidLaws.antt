@@ -20,13 +20,14 @@ use Rattle.format.specs.declared.Pair.{Pair}
 use Rattle.format.specs.Shape.{reads, writes, covers}
 use Rattle.format.specs.Event.{Event, readsAt, writesAt, saw, wrote}
 use Rattle.format.specs.Execution.{event, noRow, noPair}
-use Rattle.format.specs.Field.{valueAt}
+use Rattle.format.specs.Field.{restAt}
 use Rattle.format.specs.Layout.{agentOf, shapeOf, accessOf, seenOf, writtenOf, rowGap, pairGap}
 use Rattle.format.proofs.EventLaws.{one, readsAt-one, writesAt-one}
-use Rattle.sheet.specs.declared.Sheet.{Sheet}
-use Rattle.sheet.specs.Handed.{spaced, eventAt, rowAt, pairAt, rowsOn, pairsOn, rowsIn, pairsIn, execution, rowNo, pairNo, Laid}
-use Rattle.sheet.specs.Promise.{WellEvent, WellFormed}
-use Rattle.sheet.proofs.HandedLaws.{events-count, event-at, rows-count, row-at, pairs-count, pair-at}
+use Rattle.entries.specs.declared.Counts.{Counts}
+use Rattle.entries.specs.Entries.{spaced, eventAt, rowAt, pairAt, rowsOn, pairsOn, rowsIn, pairsIn, execution, rowNo, pairNo}
+use Rattle.sheet.specs.Handed.{Laid}
+use Rattle.parse.specs.Promise.{WellFormed}
+use Rattle.entries.proofs.EntriesLaws.{events-count, event-at, rows-count, row-at, pairs-count, pair-at}
 use Rattle.sets.specs.Mask.{slots}
 use Rattle.model.proofs.Sound.{Sound, sound}
 use Rattle.model.proofs.HappensLaws.{reader-inside, writer-inside}
@@ -35,7 +36,7 @@ use Rattle.lay.specs.Lay.{eventsPut, rowsPut, pairsPut, laidShape, dataAt, pass
 use Rattle.lay.proofs.CellLaws.{agent-at, kind-at, mode-at, start-at, width-at, tear-at, width-beyond, second-kept, reader-at, address-at, writer-at, seen-at, wrote-at, first-at, second-at}
 use Rattle.front.specs.Tabled.{Agents, Rowed, Paired, Seen}
 use Rattle.front.proofs.TabledLaws.{OneTabled}
-use Rattle.front.proofs.DataLaws.{seen-size, written-size, saw-byte, wrote-byte}
+use Rattle.front.proofs.DataLaws.{saw-byte, wrote-byte}
 
 -- ---- lists by number
 
@@ -70,10 +71,10 @@ pair-path : {k l m n : ℕ} → k ≡ l → m ≡ n → _≡_ {A = Pair} (record
 pair-path a b = λ i. record { first = a i; second = b i }
 
 -- the events laid down are counted
-pub laid-count : {s : List ℕ} {x : Sheet} {at : List ℕ} → Laid s x at → length (execution s x at .events) ≡ x .events
+pub laid-count : {s : List ℕ} {x : Counts} {at : List ℕ} → Laid s x at → length (execution s x at .events) ≡ x .events
 laid-count {s} {x} {at} laid = let z = laid .size in let y = laid .few in events-count s (x .head .edition) (x .events) at (omega arith)
 
-module _ (s : List ℕ) (x : Sheet) (at : List ℕ) (laid : Laid s x at) (well : WellFormed (execution s x at)) (t q p : List ℕ)
+module _ (s : List ℕ) (x : Counts) (at : List ℕ) (laid : Laid s x at) (well : WellFormed (execution s x at)) (t q p : List ℕ)
     (ly : Layered s x at (replicate columns 0) t (replicate rowCells 0) q (replicate 64 0) p) where
   so : Sound (execution s x at)
   so = sound (execution s x at) well
@@ -90,44 +91,44 @@ module _ (s : List ℕ) (x : Sheet) (at : List ℕ) (laid : Laid s x at) (well :
 
   -- ---- events
 
-  t-is : t ≡ eventsPut s at (x .events) (replicate columns 0)
-  t-is = let y = laid .few in let z : min (x .events) slots ≡ x .events = omega arith in ly .events ∙ ap (λ (i : ℕ). eventsPut s at i (replicate columns 0)) z
+  t-is : t ≡ eventsPut s (x .head .edition) at (x .events) (replicate columns 0)
+  t-is = let y = laid .few in let z : min (x .events) slots ≡ x .events = omega arith in ly .events ∙ ap (λ (i : ℕ). eventsPut s (x .head .edition) at i (replicate columns 0)) z
 
-  cell : (c v : ℕ) → getD (eventsPut s at (x .events) (replicate columns 0)) c 0 ≡ v → getD t c 0 ≡ v
+  cell : (c v : ℕ) → getD (eventsPut s (x .head .edition) at (x .events) (replicate columns 0)) c 0 ≡ v → getD t c 0 ≡ v
   cell c v e = ap (λ (l : List ℕ). getD l c 0) t-is ∙ e
 
   t-long : length {A = ℕ} (replicate columns 0) ≡ 352
   t-long = length-replicate {A = ℕ} columns 0
 
-  agent-of : (e : ℕ) → e < x .events → agentIn t e ≡ agentOf (valueAt s (getD at e 0))
+  agent-of : (e : ℕ) → e < x .events → agentIn t e ≡ agentOf (restAt s (getD at e 0))
   unfolding agentIn
   agent-of e h =
       let c = counted in
       let a = well .events e (omega arith) .agent in
       let m = well .agents .1 in
-      let is : event (execution s x at) e .agent ≡ agentOf (valueAt s (getD at e 0)) = ap (λ (d : Event). d .agent) (event-is e h) in
-      ap (λ (i : ℕ). i % agentRoom) (cell e (agentOf (valueAt s (getD at e 0))) (agent-at s at (replicate columns 0) t-long (x .events) (laid .few) e h))
+      let is : event (execution s x at) e .agent ≡ agentOf (restAt s (getD at e 0)) = ap (λ (d : Event). d .agent) (event-is e h) in
+      ap (λ (i : ℕ). i % agentRoom) (cell e (agentOf (restAt s (getD at e 0))) (agent-at s (x .head .edition) at (replicate columns 0) t-long (x .events) (laid .few) e h))
       ∙ mod-eq-of-lt (omega arith)
 
-  shape-of : (e : ℕ) → e < x .events → shapeIn t (2 * e) ≡ shapeOf (valueAt s (getD at e 0))
+  shape-of : (e : ℕ) → e < x .events → shapeIn t (2 * e) ≡ shapeOf (x .head .edition) (restAt s (getD at e 0))
   unfolding shapeIn
   shape-of e h =
       shape-path
-      (cell (32 + 2 * e) _ (kind-at s at (replicate columns 0) t-long (x .events) (laid .few) e h))
-      (cell (96 + 2 * e) _ (mode-at s at (replicate columns 0) t-long (x .events) (laid .few) e h))
-      (cell (160 + 2 * e) _ (start-at s at (replicate columns 0) t-long (x .events) (laid .few) e h))
-      (cell (224 + 2 * e) _ (width-at s at (replicate columns 0) t-long (x .events) (laid .few) e h))
-      (cell (288 + 2 * e) _ (tear-at s at (replicate columns 0) t-long (x .events) (laid .few) e h))
+      (cell (32 + 2 * e) _ (kind-at s (x .head .edition) at (replicate columns 0) t-long (x .events) (laid .few) e h))
+      (cell (96 + 2 * e) _ (mode-at s (x .head .edition) at (replicate columns 0) t-long (x .events) (laid .few) e h))
+      (cell (160 + 2 * e) _ (start-at s (x .head .edition) at (replicate columns 0) t-long (x .events) (laid .few) e h))
+      (cell (224 + 2 * e) _ (width-at s (x .head .edition) at (replicate columns 0) t-long (x .events) (laid .few) e h))
+      (cell (288 + 2 * e) _ (tear-at s (x .head .edition) at (replicate columns 0) t-long (x .events) (laid .few) e h))
 
   no-second : (e : ℕ) → e < slots → shapeIn t (2 * e + 1) .width ≡ 0
   unfolding shapeIn
   no-second e h =
-      cell (224 + (2 * e + 1)) 0 (second-kept s at (replicate columns 0) t-long (x .events) (laid .few) e h ∙ getD-replicate columns (224 + (2 * e + 1)) 0 0 (omega arith))
+      cell (224 + (2 * e + 1)) 0 (second-kept s (x .head .edition) at (replicate columns 0) t-long (x .events) (laid .few) e h ∙ getD-replicate columns (224 + (2 * e + 1)) 0 0 (omega arith))
 
   none-beyond : (e : ℕ) → x .events ≤ e → e < slots → shapeIn t (2 * e) .width ≡ 0
   unfolding shapeIn
   none-beyond e h k =
-      cell (224 + 2 * e) 0 (width-beyond s at (replicate columns 0) t-long (x .events) (laid .few) e h k ∙ getD-replicate columns (224 + 2 * e) 0 0 (omega arith))
+      cell (224 + 2 * e) 0 (width-beyond s (x .head .edition) at (replicate columns 0) t-long (x .events) (laid .few) e h k ∙ getD-replicate columns (224 + 2 * e) 0 0 (omega arith))
 
   pub laid-tabled : OneTabled (execution s x at) t (x .events)
   laid-tabled =
@@ -135,7 +136,7 @@ module _ (s : List ℕ) (x : Sheet) (at : List ℕ) (laid : Laid s x at) (well :
         count = counted;
         few = laid .few;
         entry = λ e h.
-            let v = valueAt s (getD at e 0) in (
+            let v = restAt s (getD at e 0) in (
               seenOf (x .head .edition) v,
               writtenOf (x .head .edition) v,
               event-is e h
@@ -150,14 +151,11 @@ module _ (s : List ℕ) (x : Sheet) (at : List ℕ) (laid : Laid s x at) (well :
 
   -- ---- an event's data
 
-  first-slot : (e : ℕ) → e < x .events → laidShape t e ≡ shapeOf (valueAt s (getD at e 0))
+  first-slot : (e : ℕ) → e < x .events → laidShape t e ≡ shapeOf (x .head .edition) (restAt s (getD at e 0))
   first-slot e h =
       let y = laid .few in
       let z : 2 * e % accesses ≡ 2 * e = mod-eq-of-lt (omega arith) in
       ap (shapeIn t) z ∙ shape-of e h
-
-  well-event : (e : ℕ) → e < x .events → WellEvent (x .head) (eventAt s (x .head .edition) (getD at e 0))
-  well-event e h = let c = counted in subst (WellEvent (x .head)) (event-is e h) (well .events e (omega arith))
 
   module _ (e a : ℕ) (h : e < x .events) where
     abbrev ed : ℕ
@@ -167,23 +165,23 @@ module _ (s : List ℕ) (x : Sheet) (at : List ℕ) (laid : Laid s x at) (well :
     place = getD at e 0
 
     abbrev v : List ℕ
-    v = valueAt s place
+    v = restAt s place
 
     seen-of : T (readsAt (event (execution s x at) e) a) → getD s (dataAt ed place (laidShape t e) a) 0 ≡ saw (event (execution s x at) e) a
     seen-of r =
         let y = T-true _ (subst (λ (d : Event). T (readsAt d a)) (event-is e h) r) in
-        let k = and-both (covers (shapeOf v) a) (reads (shapeOf v)) (sym (readsAt-one (agentOf v) (accessOf ed v) a) ∙ y) in
+        let k = and-both (covers (shapeOf ed v) a) (reads (shapeOf ed v)) (sym (readsAt-one (agentOf v) (accessOf ed v) a) ∙ y) in
         ap (λ (b : Shape). getD s (dataAt ed place b a) 0) (first-slot e h)
-        ∙ sym (saw-byte s place ed a (k .0) (k .1) (seen-size (x .head) (agentOf v) (accessOf ed v) (well-event e h) (k .1)))
+        ∙ sym (saw-byte s place ed a (k .0) (k .1))
         ∙ ap (λ (d : Event). saw d a) (sym (event-is e h))
 
     wrote-of : T (writesAt (event (execution s x at) e) a)
         → getD s (dataAt ed place (laidShape t e) a + passed (laidShape t e)) 0 ≡ wrote (event (execution s x at) e) a
     wrote-of r =
         let y = T-true _ (subst (λ (d : Event). T (writesAt d a)) (event-is e h) r) in
-        let k = and-both (covers (shapeOf v) a) (writes (shapeOf v)) (sym (writesAt-one (agentOf v) (accessOf ed v) a) ∙ y) in
+        let k = and-both (covers (shapeOf ed v) a) (writes (shapeOf ed v)) (sym (writesAt-one (agentOf v) (accessOf ed v) a) ∙ y) in
         ap (λ (b : Shape). getD s (dataAt ed place b a + passed b) 0) (first-slot e h)
-        ∙ sym (wrote-byte s place ed a (k .0) (k .1) (written-size (x .head) (agentOf v) (accessOf ed v) (well-event e h) (k .1)))
+        ∙ sym (wrote-byte s place ed a (k .0) (k .1))
         ∙ ap (λ (d : Event). wrote d a) (sym (event-is e h))
 
   -- ---- rows
@@ -218,7 +216,7 @@ module _ (s : List ℕ) (x : Sheet) (at : List ℕ) (laid : Laid s x at) (well :
 
     pub laid-rowed : Rowed (execution s x at) q (x .rows)
     unfolding rowsOn
-    laid-rowed = spaced-each (rowAt s) (rowGap (x .head .edition)) (x .«rows_at») (x .rows) (rowIn q) row-of
+    laid-rowed = spaced-each (rowAt s (x .head .edition)) (rowGap (x .head .edition)) (x .«rows_at») (x .rows) (rowIn q) row-of
 
     reads-row : (j : ℕ) → j < x .rows → T (readsAt (event (execution s x at) (rowNo s x j .reader)) (rowNo s x j .address))
     reads-row j h =

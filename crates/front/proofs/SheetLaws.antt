@@ -11,10 +11,11 @@ use Prim.Native.Nat.{ℕ, _+_, _*_, _<_, _≤_, min}
 use native.Mathlib.Omega.{arith}
 use lib.ListN.{getD, replicate}
 use Rattle.format.specs.Execution.{Execution}
-use Rattle.sheet.specs.declared.Sheet.{Sheet}
-use Rattle.sheet.specs.Handed.{execution, Laid}
-use Rattle.sheet.specs.Promise.{WellFormed}
-use Rattle.sheet.proofs.HandedLaws.{rows-count}
+use Rattle.entries.specs.declared.Counts.{Counts}
+use Rattle.entries.specs.Entries.{execution}
+use Rattle.sheet.specs.Handed.{Laid}
+use Rattle.parse.specs.Promise.{WellFormed}
+use Rattle.entries.proofs.EntriesLaws.{rows-count}
 use Rattle.sets.specs.Mask.{slots, mem}
 use Rattle.model.specs.Bar.{bar}
 use Rattle.model.specs.Rules.{fault}
@@ -42,7 +43,7 @@ roomy F {n} {room} h f = subst F (let z : min n room ≡ n = omega arith in z) f
 
 -- ---- from the sheet
 
-module _ {s : List ℕ} {x : Sheet} {at : List ℕ} (laid : Laid s x at) (well : WellFormed (execution s x at)) {t q p : List ℕ}
+module _ {s : List ℕ} {x : Counts} {at : List ℕ} (laid : Laid s x at) (well : WellFormed (execution s x at)) {t q p : List ℕ}
     (ly : Layered s x at (replicate columns 0) t (replicate rowCells 0) q (replicate 64 0) p) {succ pred : List ℕ}
     (o : ClosedSteps t (min (x .events) slots) q (min (x .rows) rowRoom) p (min (x .pairs) pairRoom) (replicate slots 0) succ (replicate slots 0) pred) where
   sl : Slotted (execution s x at) t (x .events)

@@ -14,7 +14,7 @@ use Rattle.format.specs.Event.{writesAt}
 use Rattle.format.specs.Execution.{Execution, others}
 use Rattle.format.proofs.EventLaws.{writesAt-nobody}
 use Rattle.format.proofs.ExecutionLaws.{event-inside}
-use Rattle.sheet.proofs.PromiseLaws.{promise}
+use Rattle.parse.proofs.PromiseLaws.{promise}
 use Rattle.sets.specs.Mask.{slots}
 use Rattle.sets.specs.Table.{bytesFor, cleared}
 use Rattle.orders.specs.Problem.{Problem}

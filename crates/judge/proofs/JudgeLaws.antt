@@ -10,11 +10,12 @@ use native.Mathlib.Omega.{arith}
 use borrow.Author.Tests.{lt-ltb, le-ltb}
 use lib.ListN.{length, replicate}
 use Rattle.format.specs.Execution.{Execution, others}
-use Rattle.sheet.specs.declared.Sheet.{Sheet}
-use Rattle.sheet.specs.Parse.{refused, parse}
-use Rattle.sheet.specs.Handed.{execution, HandedWhole}
-use Rattle.sheet.specs.Promise.{WellFormed}
-use Rattle.sheet.proofs.PromiseLaws.{promise}
+use Rattle.entries.specs.declared.Counts.{Counts}
+use Rattle.parse.specs.Parse.{refused, parse}
+use Rattle.entries.specs.Entries.{execution}
+use Rattle.sheet.specs.Handed.{HandedWhole}
+use Rattle.parse.specs.Promise.{WellFormed}
+use Rattle.parse.proofs.PromiseLaws.{promise}
 use Rattle.sets.specs.Mask.{slots}
 use Rattle.sets.specs.Table.{bytesFor, cleared}
 use Rattle.answer.specs.declared.Names.{Names}
@@ -40,7 +41,7 @@ refused-sheet e = record { says = rw e; scratch-kept = refl; order-kept = refl }
 
 -- ---- the buffers
 
-module _ {s : List ℕ} {x : Sheet} {at : List ℕ} (h : HandedWhole s x at) where
+module _ {s : List ℕ} {x : Counts} {at : List ℕ} (h : HandedWhole s x at) where
   abbrev X : Execution
   X = execution s x at
 
@@ -84,7 +85,7 @@ module _ {s : List ℕ} {x : Sheet} {at : List ℕ} (h : HandedWhole s x at) whe
 
 -- ---- the rules
 
-module _ {s : List ℕ} {x : Sheet} {at : List ℕ} {need : ℕ} {scratch order : List ℕ} (a : Admits s x at need scratch order) {t q p : List ℕ}
+module _ {s : List ℕ} {x : Counts} {at : List ℕ} {need : ℕ} {scratch order : List ℕ} (a : Admits s x at need scratch order) {t q p : List ℕ}
     (ly : Layered s x at (replicate columns 0) t (replicate rowCells 0) q (replicate 64 0) p) {succ pred : List ℕ}
     (o : ClosedSteps t (min (x .events) slots) q (min (x .rows) rowRoom) p (min (x .pairs) pairRoom) (replicate slots 0) succ (replicate slots 0) pred) where
   well : WellFormed (execution s x at)

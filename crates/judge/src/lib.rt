@@ -2,9 +2,9 @@
 use answer::Answer;
 use answer::Names;
 use answer::Rule;
+use entries::Counts;
 use sets::SLOTS;
 use sheet::Reading;
-use sheet::Sheet;
 use tables::COLUMNS;
 use tables::PAIR_CELLS;
 use tables::ROW_CELLS;
@@ -44,7 +44,7 @@ fn arrange(
 // The rules 21 to 25 on tables filled from the sheet, and then the last step.
 fn weigh(
     s: &[u8],
-    x: Sheet,
+    x: Counts,
     at: &[u16],
     need: usize,
     scratch: &mut [u8],
@@ -75,7 +75,7 @@ fn weigh(
 }
 
 // A whole sheet: refused where a buffer is too short, else judged.
-fn admit(s: &[u8], x: Sheet, at: &[u16], scratch: &mut [u8], order: &mut [u8]) -> Answer
+fn admit(s: &[u8], x: Counts, at: &[u16], scratch: &mut [u8], order: &mut [u8]) -> Answer
     requires { ⌜ HandedWhole (now s) x (now at) ⌝ }
     ensures { λ r. ⌜ Judged (now (s .entry)) (now (scratch .entry)) (now (order .entry)) r (now (scratch .exit)) (now (order .exit)) ⌝ }
 {
@@ -96,7 +96,7 @@ pub fn judge(s: &[u8], scratch: &mut [u8], order: &mut [u8]) -> Answer
 {
     let o = sheet::reader::read(s);
     let reading = o.reading;
-    let x = o.sheet;
+    let x = o.counts;
     let at = o.at;
     match reading {
         Reading::Refused(n, p) => Answer::Refused(n, p),

@@ -13,10 +13,10 @@ use native.Mathlib.Decide.{ℕ-discrete}
 use lib.ListN.{length, getD, set, length-set}
 use lib.Seq.{getD-set-same, getD-set-other}
 use Rattle.format.specs.declared.Shape.{Shape}
-use Rattle.format.specs.Field.{valueAt}
+use Rattle.format.specs.Field.{restAt}
 use Rattle.format.specs.Layout.{agentOf, shapeOf}
-use Rattle.sheet.specs.declared.Sheet.{Sheet}
-use Rattle.sheet.specs.Handed.{rowNo, pairNo}
+use Rattle.entries.specs.declared.Counts.{Counts}
+use Rattle.entries.specs.Entries.{rowNo, pairNo}
 use Rattle.sets.specs.Mask.{slots}
 use Rattle.cells.specs.Walk.{upTo}
 use Rattle.tables.specs.Tables.{rowRoom, puttingRow, pairRoom}
@@ -92,103 +92,103 @@ module _ (f : ℕ → List ℕ → List ℕ) (p room : ℕ) (miss : (j : ℕ) (l
 
 -- ---- accesses
 
-module _ (s at l : List ℕ) (long : length l ≡ 352) (m : ℕ) (few : m ≤ slots) where
+module _ (s : List ℕ) (edition : ℕ) (at l : List ℕ) (long : length l ≡ 352) (m : ℕ) (few : m ≤ slots) where
   abbrev sh : ℕ → Shape
-  sh j = shapeOf (valueAt s (getD at j 0))
+  sh j = shapeOf edition (restAt s (getD at j 0))
 
   abbrev ag : ℕ → ℕ
-  ag j = agentOf (valueAt s (getD at j 0))
+  ag j = agentOf (restAt s (getD at j 0))
 
-  agent-hit : (j : ℕ) (k : List ℕ) → j < slots → length k ≡ 352 → getD (eventStep s at j k) j 0 ≡ ag j
+  agent-hit : (j : ℕ) (k : List ℕ) → j < slots → length k ≡ 352 → getD (eventStep s edition at j k) j 0 ≡ ag j
   agent-hit j k h z =
       five-miss (set k j (ag j)) (32 + 2 * j) (96 + 2 * j) (160 + 2 * j) (224 + 2 * j) (288 + 2 * j) (sh j .kind) (sh j .mode) (sh j .start) (sh j .width) (sh j .tear) j (λ z. omega arith) (λ z. omega arith) (λ z. omega arith) (λ z. omega arith) (λ z. omega arith)
       ∙ getD-set-same k j (ag j) 0 (omega arith)
 
-  agent-miss : (i j : ℕ) (k : List ℕ) → i < slots → j < slots → (i ≡ j → ⊥) → getD (eventStep s at j k) i 0 ≡ getD k i 0
+  agent-miss : (i j : ℕ) (k : List ℕ) → i < slots → j < slots → (i ≡ j → ⊥) → getD (eventStep s edition at j k) i 0 ≡ getD k i 0
   agent-miss i j k h g d =
       five-miss (set k j (ag j)) (32 + 2 * j) (96 + 2 * j) (160 + 2 * j) (224 + 2 * j) (288 + 2 * j) (sh j .kind) (sh j .mode) (sh j .start) (sh j .width) (sh j .tear) i (λ z. omega arith) (λ z. omega arith) (λ z. omega arith) (λ z. omega arith) (λ z. omega arith)
       ∙ getD-set-other k j i (ag j) 0 d
 
-  pub agent-at : (i : ℕ) → i < m → getD (eventsPut s at m l) i 0 ≡ agentOf (valueAt s (getD at i 0))
+  pub agent-at : (i : ℕ) → i < m → getD (eventsPut s edition at m l) i 0 ≡ agentOf (restAt s (getD at i 0))
   unfolding eventsPut
-  agent-at i h = cell-at (eventStep s at) (λ j. j) ag slots 352 (event-length s at) agent-hit agent-miss l long m i few h
+  agent-at i h = cell-at (eventStep s edition at) (λ j. j) ag slots 352 (event-length s edition at) agent-hit agent-miss l long m i few h
 
-  kind-hit : (j : ℕ) (k : List ℕ) → j < slots → length k ≡ 352 → getD (eventStep s at j k) (32 + 2 * j) 0 ≡ sh j .kind
+  kind-hit : (j : ℕ) (k : List ℕ) → j < slots → length k ≡ 352 → getD (eventStep s edition at j k) (32 + 2 * j) 0 ≡ sh j .kind
   kind-hit j k h z = five-a (set k j (ag j)) (32 + 2 * j) (96 + 2 * j) (160 + 2 * j) (224 + 2 * j) (288 + 2 * j) (sh j .kind) (sh j .mode) (sh j .start) (sh j .width) (sh j .tear) (let y : length (set k j (ag j)) ≡ length k = length-set k j (ag j) in omega arith) (λ z. omega arith) (λ z. omega arith) (λ z. omega arith) (λ z. omega arith)
 
-  kind-miss : (i j : ℕ) (k : List ℕ) → i < slots → j < slots → (i ≡ j → ⊥) → getD (eventStep s at j k) (32 + 2 * i) 0 ≡ getD k (32 + 2 * i) 0
+  kind-miss : (i j : ℕ) (k : List ℕ) → i < slots → j < slots → (i ≡ j → ⊥) → getD (eventStep s edition at j k) (32 + 2 * i) 0 ≡ getD k (32 + 2 * i) 0
   kind-miss i j k h g d =
       five-miss (set k j (ag j)) (32 + 2 * j) (96 + 2 * j) (160 + 2 * j) (224 + 2 * j) (288 + 2 * j) (sh j .kind) (sh j .mode) (sh j .start) (sh j .width) (sh j .tear) (32 + 2 * i) (λ z. d (omega arith)) (λ z. omega arith) (λ z. omega arith) (λ z. omega arith) (λ z. omega arith)
       ∙ getD-set-other k j (32 + 2 * i) (ag j) 0 (λ z. omega arith)
 
-  pub kind-at : (i : ℕ) → i < m → getD (eventsPut s at m l) (32 + 2 * i) 0 ≡ shapeOf (valueAt s (getD at i 0)) .kind
+  pub kind-at : (i : ℕ) → i < m → getD (eventsPut s edition at m l) (32 + 2 * i) 0 ≡ shapeOf edition (restAt s (getD at i 0)) .kind
   unfolding eventsPut
-  kind-at i h = cell-at (eventStep s at) (λ j. 32 + 2 * j) (λ j. sh j .kind) slots 352 (event-length s at) kind-hit kind-miss l long m i few h
+  kind-at i h = cell-at (eventStep s edition at) (λ j. 32 + 2 * j) (λ j. sh j .kind) slots 352 (event-length s edition at) kind-hit kind-miss l long m i few h
 
-  mode-hit : (j : ℕ) (k : List ℕ) → j < slots → length k ≡ 352 → getD (eventStep s at j k) (96 + 2 * j) 0 ≡ sh j .mode
+  mode-hit : (j : ℕ) (k : List ℕ) → j < slots → length k ≡ 352 → getD (eventStep s edition at j k) (96 + 2 * j) 0 ≡ sh j .mode
   mode-hit j k h z = five-b (set k j (ag j)) (32 + 2 * j) (96 + 2 * j) (160 + 2 * j) (224 + 2 * j) (288 + 2 * j) (sh j .kind) (sh j .mode) (sh j .start) (sh j .width) (sh j .tear) (let y : length (set k j (ag j)) ≡ length k = length-set k j (ag j) in omega arith) (λ z. omega arith) (λ z. omega arith) (λ z. omega arith)
 
-  mode-miss : (i j : ℕ) (k : List ℕ) → i < slots → j < slots → (i ≡ j → ⊥) → getD (eventStep s at j k) (96 + 2 * i) 0 ≡ getD k (96 + 2 * i) 0
+  mode-miss : (i j : ℕ) (k : List ℕ) → i < slots → j < slots → (i ≡ j → ⊥) → getD (eventStep s edition at j k) (96 + 2 * i) 0 ≡ getD k (96 + 2 * i) 0
   mode-miss i j k h g d =
       five-miss (set k j (ag j)) (32 + 2 * j) (96 + 2 * j) (160 + 2 * j) (224 + 2 * j) (288 + 2 * j) (sh j .kind) (sh j .mode) (sh j .start) (sh j .width) (sh j .tear) (96 + 2 * i) (λ z. omega arith) (λ z. d (omega arith)) (λ z. omega arith) (λ z. omega arith) (λ z. omega arith)
       ∙ getD-set-other k j (96 + 2 * i) (ag j) 0 (λ z. omega arith)
 
-  pub mode-at : (i : ℕ) → i < m → getD (eventsPut s at m l) (96 + 2 * i) 0 ≡ shapeOf (valueAt s (getD at i 0)) .mode
+  pub mode-at : (i : ℕ) → i < m → getD (eventsPut s edition at m l) (96 + 2 * i) 0 ≡ shapeOf edition (restAt s (getD at i 0)) .mode
   unfolding eventsPut
-  mode-at i h = cell-at (eventStep s at) (λ j. 96 + 2 * j) (λ j. sh j .mode) slots 352 (event-length s at) mode-hit mode-miss l long m i few h
+  mode-at i h = cell-at (eventStep s edition at) (λ j. 96 + 2 * j) (λ j. sh j .mode) slots 352 (event-length s edition at) mode-hit mode-miss l long m i few h
 
-  start-hit : (j : ℕ) (k : List ℕ) → j < slots → length k ≡ 352 → getD (eventStep s at j k) (160 + 2 * j) 0 ≡ sh j .start
+  start-hit : (j : ℕ) (k : List ℕ) → j < slots → length k ≡ 352 → getD (eventStep s edition at j k) (160 + 2 * j) 0 ≡ sh j .start
   start-hit j k h z = five-c (set k j (ag j)) (32 + 2 * j) (96 + 2 * j) (160 + 2 * j) (224 + 2 * j) (288 + 2 * j) (sh j .kind) (sh j .mode) (sh j .start) (sh j .width) (sh j .tear) (let y : length (set k j (ag j)) ≡ length k = length-set k j (ag j) in omega arith) (λ z. omega arith) (λ z. omega arith)
 
-  start-miss : (i j : ℕ) (k : List ℕ) → i < slots → j < slots → (i ≡ j → ⊥) → getD (eventStep s at j k) (160 + 2 * i) 0 ≡ getD k (160 + 2 * i) 0
+  start-miss : (i j : ℕ) (k : List ℕ) → i < slots → j < slots → (i ≡ j → ⊥) → getD (eventStep s edition at j k) (160 + 2 * i) 0 ≡ getD k (160 + 2 * i) 0
   start-miss i j k h g d =
       five-miss (set k j (ag j)) (32 + 2 * j) (96 + 2 * j) (160 + 2 * j) (224 + 2 * j) (288 + 2 * j) (sh j .kind) (sh j .mode) (sh j .start) (sh j .width) (sh j .tear) (160 + 2 * i) (λ z. omega arith) (λ z. omega arith) (λ z. d (omega arith)) (λ z. omega arith) (λ z. omega arith)
       ∙ getD-set-other k j (160 + 2 * i) (ag j) 0 (λ z. omega arith)
 
-  pub start-at : (i : ℕ) → i < m → getD (eventsPut s at m l) (160 + 2 * i) 0 ≡ shapeOf (valueAt s (getD at i 0)) .start
+  pub start-at : (i : ℕ) → i < m → getD (eventsPut s edition at m l) (160 + 2 * i) 0 ≡ shapeOf edition (restAt s (getD at i 0)) .start
   unfolding eventsPut
-  start-at i h = cell-at (eventStep s at) (λ j. 160 + 2 * j) (λ j. sh j .start) slots 352 (event-length s at) start-hit start-miss l long m i few h
+  start-at i h = cell-at (eventStep s edition at) (λ j. 160 + 2 * j) (λ j. sh j .start) slots 352 (event-length s edition at) start-hit start-miss l long m i few h
 
-  width-hit : (j : ℕ) (k : List ℕ) → j < slots → length k ≡ 352 → getD (eventStep s at j k) (224 + 2 * j) 0 ≡ sh j .width
+  width-hit : (j : ℕ) (k : List ℕ) → j < slots → length k ≡ 352 → getD (eventStep s edition at j k) (224 + 2 * j) 0 ≡ sh j .width
   width-hit j k h z = five-d (set k j (ag j)) (32 + 2 * j) (96 + 2 * j) (160 + 2 * j) (224 + 2 * j) (288 + 2 * j) (sh j .kind) (sh j .mode) (sh j .start) (sh j .width) (sh j .tear) (let y : length (set k j (ag j)) ≡ length k = length-set k j (ag j) in omega arith) (λ z. omega arith)
 
-  width-miss : (i j : ℕ) (k : List ℕ) → i < slots → j < slots → (i ≡ j → ⊥) → getD (eventStep s at j k) (224 + 2 * i) 0 ≡ getD k (224 + 2 * i) 0
+  width-miss : (i j : ℕ) (k : List ℕ) → i < slots → j < slots → (i ≡ j → ⊥) → getD (eventStep s edition at j k) (224 + 2 * i) 0 ≡ getD k (224 + 2 * i) 0
   width-miss i j k h g d =
       five-miss (set k j (ag j)) (32 + 2 * j) (96 + 2 * j) (160 + 2 * j) (224 + 2 * j) (288 + 2 * j) (sh j .kind) (sh j .mode) (sh j .start) (sh j .width) (sh j .tear) (224 + 2 * i) (λ z. omega arith) (λ z. omega arith) (λ z. omega arith) (λ z. d (omega arith)) (λ z. omega arith)
       ∙ getD-set-other k j (224 + 2 * i) (ag j) 0 (λ z. omega arith)
 
-  pub width-at : (i : ℕ) → i < m → getD (eventsPut s at m l) (224 + 2 * i) 0 ≡ shapeOf (valueAt s (getD at i 0)) .width
+  pub width-at : (i : ℕ) → i < m → getD (eventsPut s edition at m l) (224 + 2 * i) 0 ≡ shapeOf edition (restAt s (getD at i 0)) .width
   unfolding eventsPut
-  width-at i h = cell-at (eventStep s at) (λ j. 224 + 2 * j) (λ j. sh j .width) slots 352 (event-length s at) width-hit width-miss l long m i few h
+  width-at i h = cell-at (eventStep s edition at) (λ j. 224 + 2 * j) (λ j. sh j .width) slots 352 (event-length s edition at) width-hit width-miss l long m i few h
 
-  tear-hit : (j : ℕ) (k : List ℕ) → j < slots → length k ≡ 352 → getD (eventStep s at j k) (288 + 2 * j) 0 ≡ sh j .tear
+  tear-hit : (j : ℕ) (k : List ℕ) → j < slots → length k ≡ 352 → getD (eventStep s edition at j k) (288 + 2 * j) 0 ≡ sh j .tear
   tear-hit j k h z = five-e (set k j (ag j)) (32 + 2 * j) (96 + 2 * j) (160 + 2 * j) (224 + 2 * j) (288 + 2 * j) (sh j .kind) (sh j .mode) (sh j .start) (sh j .width) (sh j .tear) (let y : length (set k j (ag j)) ≡ length k = length-set k j (ag j) in omega arith)
 
-  tear-miss : (i j : ℕ) (k : List ℕ) → i < slots → j < slots → (i ≡ j → ⊥) → getD (eventStep s at j k) (288 + 2 * i) 0 ≡ getD k (288 + 2 * i) 0
+  tear-miss : (i j : ℕ) (k : List ℕ) → i < slots → j < slots → (i ≡ j → ⊥) → getD (eventStep s edition at j k) (288 + 2 * i) 0 ≡ getD k (288 + 2 * i) 0
   tear-miss i j k h g d =
       five-miss (set k j (ag j)) (32 + 2 * j) (96 + 2 * j) (160 + 2 * j) (224 + 2 * j) (288 + 2 * j) (sh j .kind) (sh j .mode) (sh j .start) (sh j .width) (sh j .tear) (288 + 2 * i) (λ z. omega arith) (λ z. omega arith) (λ z. omega arith) (λ z. omega arith) (λ z. d (omega arith))
       ∙ getD-set-other k j (288 + 2 * i) (ag j) 0 (λ z. omega arith)
 
-  pub tear-at : (i : ℕ) → i < m → getD (eventsPut s at m l) (288 + 2 * i) 0 ≡ shapeOf (valueAt s (getD at i 0)) .tear
+  pub tear-at : (i : ℕ) → i < m → getD (eventsPut s edition at m l) (288 + 2 * i) 0 ≡ shapeOf edition (restAt s (getD at i 0)) .tear
   unfolding eventsPut
-  tear-at i h = cell-at (eventStep s at) (λ j. 288 + 2 * j) (λ j. sh j .tear) slots 352 (event-length s at) tear-hit tear-miss l long m i few h
+  tear-at i h = cell-at (eventStep s edition at) (λ j. 288 + 2 * j) (λ j. sh j .tear) slots 352 (event-length s edition at) tear-hit tear-miss l long m i few h
 
-  pub width-beyond : (i : ℕ) → m ≤ i → i < slots → getD (eventsPut s at m l) (224 + 2 * i) 0 ≡ getD l (224 + 2 * i) 0
+  pub width-beyond : (i : ℕ) → m ≤ i → i < slots → getD (eventsPut s edition at m l) (224 + 2 * i) 0 ≡ getD l (224 + 2 * i) 0
   unfolding eventsPut
-  width-beyond i h k = cell-beyond (eventStep s at) (λ j. 224 + 2 * j) (λ j. sh j .width) slots 352 (event-length s at) width-hit width-miss l long m i few h k
+  width-beyond i h k = cell-beyond (eventStep s edition at) (λ j. 224 + 2 * j) (λ j. sh j .width) slots 352 (event-length s edition at) width-hit width-miss l long m i few h k
 
-  second-miss : (i j : ℕ) (k : List ℕ) → i < slots → j < slots → getD (eventStep s at j k) (224 + (2 * i + 1)) 0 ≡ getD k (224 + (2 * i + 1)) 0
+  second-miss : (i j : ℕ) (k : List ℕ) → i < slots → j < slots → getD (eventStep s edition at j k) (224 + (2 * i + 1)) 0 ≡ getD k (224 + (2 * i + 1)) 0
   second-miss i j k h g =
       five-miss (set k j (ag j)) (32 + 2 * j) (96 + 2 * j) (160 + 2 * j) (224 + 2 * j) (288 + 2 * j) (sh j .kind) (sh j .mode) (sh j .start) (sh j .width) (sh j .tear) (224 + (2 * i + 1)) (λ z. omega arith) (λ z. omega arith) (λ z. omega arith) (λ z. omega arith) (λ z. omega arith)
       ∙ getD-set-other k j (224 + (2 * i + 1)) (ag j) 0 (λ z. omega arith)
 
-  pub second-kept : (i : ℕ) → i < slots → getD (eventsPut s at m l) (224 + (2 * i + 1)) 0 ≡ getD l (224 + (2 * i + 1)) 0
+  pub second-kept : (i : ℕ) → i < slots → getD (eventsPut s edition at m l) (224 + (2 * i + 1)) 0 ≡ getD l (224 + (2 * i + 1)) 0
   unfolding eventsPut
-  second-kept i h = cell-kept (eventStep s at) (224 + (2 * i + 1)) slots (λ j k g. second-miss i j k h g) l m few
+  second-kept i h = cell-kept (eventStep s edition at) (224 + (2 * i + 1)) slots (λ j k g. second-miss i j k h g) l m few
 
 -- ---- rows
 
-module _ (s : List ℕ) (x : Sheet) (at t l : List ℕ) (long : length l ≡ 2560) (m : ℕ) (few : m ≤ rowRoom) where
+module _ (s : List ℕ) (x : Counts) (at t l : List ℕ) (long : length l ≡ 2560) (m : ℕ) (few : m ≤ rowRoom) where
   row-is : (j : ℕ) (k : List ℕ) → j < rowRoom → rowPut s x at t j k ≡ puttingRow k j (rowNo s x j) (seenAt s (x .head .edition) at t (rowNo s x j)) (wroteAt s (x .head .edition) at t (rowNo s x j))
   unfolding rowPut
   row-is j k h = ap (λ (i : ℕ). puttingRow k i (rowNo s x j) (seenAt s (x .head .edition) at t (rowNo s x j)) (wroteAt s (x .head .edition) at t (rowNo s x j))) (mod-eq-of-lt h)
@@ -245,7 +245,7 @@ module _ (s : List ℕ) (x : Sheet) (at t l : List ℕ) (long : length l ≡ 256
 
 -- ---- pairs
 
-module _ (s : List ℕ) (x : Sheet) (l : List ℕ) (long : length l ≡ 64) (m : ℕ) (few : m ≤ pairRoom) where
+module _ (s : List ℕ) (x : Counts) (l : List ℕ) (long : length l ≡ 64) (m : ℕ) (few : m ≤ pairRoom) where
   pair-is : (j : ℕ) (k : List ℕ) → j < pairRoom → pairPut s x j k ≡ set (set k j (pairNo s x j .first)) (32 + j) (pairNo s x j .second)
   unfolding pairPut
   pair-is j k h = ap (λ (i : ℕ). set (set k i (pairNo s x j .first)) (32 + i) (pairNo s x j .second)) (mod-eq-of-lt h)

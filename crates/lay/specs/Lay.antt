@@ -1,5 +1,5 @@
 -- The tables as they are filled from a sheet. Laws: proofs/LayLaws.antt.
---     valuePut, eventPut, eventsPut     the event of a value, of a field, written into its first slot; the first n
+--     eventPut, eventsPut     the event of a field written into its first slot; the first n
 --     laidShape t e           the access of event e whose data is read
 --     dataAt, seenAt, wroteAt the place of its data for a byte; the byte that a row's reader saw there, the byte that its writer wrote
 --     rowPut, rowsPut         one row written, with the byte seen and the byte written; the first m
@@ -14,25 +14,22 @@ use lib.Dec.{eqb}
 use lib.ListN.{getD, set}
 use Rattle.format.specs.declared.Shape.{Shape}
 use Rattle.format.specs.declared.Row.{Row}
-use Rattle.format.specs.Field.{fieldBytes, valueAt}
+use Rattle.format.specs.Field.{fieldBytes, restAt}
 use Rattle.format.specs.Layout.{eventBytes, agentOf, shapeOf}
-use Rattle.sheet.specs.declared.Sheet.{Sheet}
-use Rattle.sheet.specs.Handed.{rowNo, pairNo}
+use Rattle.entries.specs.declared.Counts.{Counts}
+use Rattle.entries.specs.Entries.{rowNo, pairNo}
 use Rattle.sets.specs.Mask.{slots}
 use Rattle.cells.specs.Walk.{upTo}
 use Rattle.tables.specs.Tables.{accesses, shapeIn, rowRoom, putting, puttingRow, pairRoom, puttingPair}
 
-abbrev pub valuePut : List ℕ → ℕ → List ℕ → List ℕ
-valuePut v e l = putting (set l e (agentOf v)) (2 * e) (shapeOf v)
+abbrev pub eventPut : List ℕ → ℕ → ℕ → ℕ → List ℕ → List ℕ
+eventPut s edition p e l = putting (set l e (agentOf (restAt s p))) (2 * e) (shapeOf edition (restAt s p))
 
-abbrev pub eventPut : List ℕ → ℕ → ℕ → List ℕ → List ℕ
-eventPut s p e l = valuePut (valueAt s p) e l
+abbrev pub eventStep : List ℕ → ℕ → List ℕ → ℕ → List ℕ → List ℕ
+eventStep s edition at e l = eventPut s edition (getD at e 0) e l
 
-abbrev pub eventStep : List ℕ → List ℕ → ℕ → List ℕ → List ℕ
-eventStep s at e l = eventPut s (getD at e 0) e l
-
-unfoldable pub eventsPut : List ℕ → List ℕ → ℕ → List ℕ → List ℕ
-eventsPut s at n l = upTo (eventStep s at) n l
+unfoldable pub eventsPut : List ℕ → ℕ → List ℕ → ℕ → List ℕ → List ℕ
+eventsPut s edition at n l = upTo (eventStep s edition at) n l
 
 -- Of an event's accesses that in its first slot: today it has no other, and its data stands behind its eventBytes. 02 §11, which adds a second
 -- with its data behind the first's, changes this and dataAt.
@@ -54,20 +51,20 @@ abbrev pub wroteAt : List ℕ → ℕ → List ℕ → List ℕ → Row → ℕ
 wroteAt s edition at t r =
     getD s (dataAt edition (getD at (r .writer) 0) (laidShape t (r .writer)) (r .address) + passed (laidShape t (r .writer))) 0
 
-unfoldable pub rowPut : List ℕ → Sheet → List ℕ → List ℕ → ℕ → List ℕ → List ℕ
+unfoldable pub rowPut : List ℕ → Counts → List ℕ → List ℕ → ℕ → List ℕ → List ℕ
 rowPut s x at t j l =
     puttingRow l (j % rowRoom) (rowNo s x j) (seenAt s (x .head .edition) at t (rowNo s x j)) (wroteAt s (x .head .edition) at t (rowNo s x j))
 
-unfoldable pub rowsPut : List ℕ → Sheet → List ℕ → List ℕ → ℕ → List ℕ → List ℕ
+unfoldable pub rowsPut : List ℕ → Counts → List ℕ → List ℕ → ℕ → List ℕ → List ℕ
 rowsPut s x at t m l = upTo (rowPut s x at t) m l
 
-unfoldable pub pairPut : List ℕ → Sheet → ℕ → List ℕ → List ℕ
+unfoldable pub pairPut : List ℕ → Counts → ℕ → List ℕ → List ℕ
 pairPut s x j l = puttingPair l (j % pairRoom) (pairNo s x j)
 
-unfoldable pub pairsPut : List ℕ → Sheet → ℕ → List ℕ → List ℕ
+unfoldable pub pairsPut : List ℕ → Counts → ℕ → List ℕ → List ℕ
 pairsPut s x k l = upTo (pairPut s x) k l
 
-pub record Layered (s : List ℕ) (x : Sheet) (at t t′ q q′ p p′ : List ℕ) : Type 0 where
-  pub events : t′ ≡ eventsPut s at (min (x .events) slots) t
+pub record Layered (s : List ℕ) (x : Counts) (at t t′ q q′ p p′ : List ℕ) : Type 0 where
+  pub events : t′ ≡ eventsPut s (x .head .edition) at (min (x .events) slots) t
   pub rows : q′ ≡ rowsPut s x at t′ (min (x .rows) rowRoom) q
   pub pairs : p′ ≡ pairsPut s x (min (x .pairs) pairRoom) p

@@ -11,13 +11,13 @@ use lib.Seq.{take-take}
 use Rattle.basis.specs.Test.{from}
 use Rattle.basis.proofs.ListLaws.{zeros-at}
 use Rattle.format.specs.Execution.{Execution, inits}
-use Rattle.sheet.specs.Parse.{whole, parse}
-use Rattle.sheet.specs.Described.{described, Rowless}
-use Rattle.sheet.specs.WellSheet.{WellSheet}
-use Rattle.sheet.proofs.DescribedLaws.{rowless-refused}
-use Rattle.sheet.proofs.PromiseLaws.{promise}
-use Rattle.sheet.proofs.WellSheetLaws.{exactly}
-use Rattle.sheet.proofs.RefusalLaws.{refusal, refusal-number}
+use Rattle.parse.specs.Parse.{whole, parse}
+use Rattle.parse.specs.Described.{described, Rowless}
+use Rattle.parse.specs.WellSheet.{WellSheet}
+use Rattle.parse.proofs.DescribedLaws.{rowless-refused}
+use Rattle.parse.proofs.PromiseLaws.{promise}
+use Rattle.parse.proofs.WellSheetLaws.{exactly}
+use Rattle.parse.proofs.RefusalLaws.{refusal, refusal-number}
 use Rattle.sets.specs.Table.{cleared}
 use Rattle.sets.proofs.TableLaws.{cleared-within, cleared-rest, length-cleared}
 use Rattle.orders.specs.Order.{Meets}

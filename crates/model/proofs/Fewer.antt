@@ -23,7 +23,7 @@ use Rattle.answer.specs.declared.Settled.the-variants.{Orderly as AllSettled}
 use Rattle.answer.specs.declared.Answer.the-variants.{Consistent}
 use Rattle.orders.specs.Order.{Meets}
 use Rattle.orders.proofs.OrderLaws.{meets-fewer}
-use Rattle.sheet.proofs.WellSheetLaws.{exactly}
+use Rattle.parse.proofs.WellSheetLaws.{exactly}
 use Rattle.model.specs.Events.{numbers, atRow}
 use Rattle.model.specs.Happens.{agentOrder, rowSyncs, synchronises, initFirst, step, Happens, one, more, Tests}
 use Rattle.model.specs.Rules.{breaks21, breaks22, breaks23, breaks24, untorn, untornFrom, breaks25, fault}

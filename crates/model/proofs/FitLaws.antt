@@ -20,11 +20,11 @@ use Rattle.format.specs.Shape.{covers}
 use Rattle.format.specs.Event.{Access, shapeAt}
 use Rattle.format.specs.Execution.{Execution, event, noRow}
 use Rattle.format.proofs.ExecutionLaws.{shape-mem, reads-covers}
-use Rattle.sheet.specs.Parse.{refused, parse}
-use Rattle.sheet.specs.Promise.{WellFormed, row}
-use Rattle.sheet.proofs.ParseLaws.{too-long}
-use Rattle.sheet.proofs.PromiseLaws.{promise}
-use Rattle.sheet.proofs.RefusalLaws.{refusal-number, refusal-place}
+use Rattle.parse.specs.Parse.{refused, parse}
+use Rattle.parse.specs.Promise.{WellFormed, row}
+use Rattle.parse.proofs.ParseLaws.{too-long}
+use Rattle.parse.proofs.PromiseLaws.{promise}
+use Rattle.parse.proofs.RefusalLaws.{refusal-number, refusal-place}
 use Rattle.answer.specs.declared.Names.{Names}
 use Rattle.answer.specs.declared.Settled.{Settled}
 use Rattle.answer.specs.declared.Answer.{Answer}

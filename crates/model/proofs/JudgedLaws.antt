@@ -15,7 +15,7 @@ use lib.Dec.{ltb, ltb→lt}
 use lib.ListN.{length, take, drop, take-append-drop}
 use Rattle.basis.proofs.BoolLaws.{T-false}
 use Rattle.format.specs.Execution.{Execution}
-use Rattle.sheet.specs.Parse.{Parsed, refused, whole, parse}
+use Rattle.parse.specs.Parse.{Parsed, refused, whole, parse}
 use Rattle.sets.specs.Table.{cleared}
 use Rattle.orders.specs.Order.{Meets}
 use Rattle.orders.specs.First.{FirstOf}

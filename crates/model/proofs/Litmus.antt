@@ -6,7 +6,7 @@ use Prim.Native.Nat.{ℕ}
 use lib.ListN.{length, drop}
 use Rattle.basis.specs.Test.{each}
 use Rattle.sets.specs.Table.{cleared}
-use Rattle.sheet.proofs.PromiseLaws.{promise}
+use Rattle.parse.proofs.PromiseLaws.{promise}
 use Rattle.answer.specs.declared.Answer.{Answer}
 use Rattle.model.specs.Judged.{Judged}
 use Rattle.model.specs.Litmus.{Entry, proved}

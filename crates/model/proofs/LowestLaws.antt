@@ -19,7 +19,7 @@ use Rattle.basis.proofs.FindLaws.{find-none, sorted-by, Then, find-first}
 use Rattle.format.specs.declared.Row.{Row}
 use Rattle.format.specs.Execution.{Execution, rowBelow, noRow}
 use Rattle.format.proofs.ExecutionLaws.{writes-covers, covering-inside}
-use Rattle.sheet.specs.Promise.{WellFormed, row}
+use Rattle.parse.specs.Promise.{WellFormed, row}
 use Rattle.orders.specs.First.{Lex}
 use Rattle.orders.proofs.FirstLaws.{Tri, below, same, above, tri}
 use Rattle.answer.specs.declared.Names.{Names}

@@ -13,7 +13,7 @@ use lib.ListN.{length, getD}
 use Rattle.basis.specs.Test.{_and_, _or_, non, any, _else_, mapped, each, across, from}
 use Rattle.format.specs.declared.Row.{Row}
 use Rattle.format.specs.Execution.{Execution, inits, others}
-use Rattle.sheet.specs.Parse.{Parsed, refused, whole}
+use Rattle.parse.specs.Parse.{Parsed, refused, whole}
 use Rattle.answer.specs.declared.Names.the-variants.{Nobody}
 use Rattle.answer.specs.declared.Answer.{Answer}
 use Rattle.answer.specs.declared.Answer.the-variants.{Refused, Broken, Consistent}

@@ -10,7 +10,7 @@ use native.Mathlib.Omega.{arith}
 use lib.ListN.{length, take, drop}
 use lib.Seq.{take-append-seam, drop-append-seam}
 use Rattle.format.specs.Execution.{Execution}
-use Rattle.sheet.specs.Parse.{Parsed, refused, whole, parse}
+use Rattle.parse.specs.Parse.{Parsed, refused, whole, parse}
 use Rattle.sets.specs.Table.{cleared}
 use Rattle.sets.proofs.TableLaws.{cleared-min}
 use Rattle.orders.specs.Order.{Meets}

@@ -25,7 +25,7 @@ use Rattle.format.specs.Execution.{Execution, event}
 use Rattle.format.proofs.EventLaws.{one, access-hit, writesAt-one, readsAt-one, isMarker-one, isMarker-nobody, writesAt-nobody, readsAt-nobody, covers-nothing}
 use Rattle.format.proofs.ShapeLaws.{equal-sym, equal-self, covers-equal}
 use Rattle.format.proofs.ExecutionLaws.{event-out, shape-mem, reads-covers, writes-covers, covering-inside}
-use Rattle.sheet.specs.Promise.{WellFormed}
+use Rattle.parse.specs.Promise.{WellFormed}
 use Rattle.orders.specs.Order.{Precedes, Meets}
 use Rattle.model.specs.Events.{atRow, ofReader, ofWriter, anyTwo}
 use Rattle.model.specs.Happens.{rowSyncs, synchronises, initFirst}

@@ -18,7 +18,7 @@ use Rattle.format.specs.Execution.{Execution, eventNo, event, inits, noRow, noP
 use Rattle.format.proofs.EventLaws.{isMarker-nobody}
 use Rattle.format.proofs.ShapeLaws.{overlap-sym}
 use Rattle.format.proofs.ExecutionLaws.{event-inside, access-inside}
-use Rattle.sheet.specs.Promise.{WellEvent, WellFormed, row, pair}
+use Rattle.parse.specs.Promise.{WellEvent, WellFormed, row, pair}
 use Rattle.model.specs.Events.{anyTwo}
 use Rattle.model.proofs.EventsLaws.{two-elim}
 

@@ -10,11 +10,11 @@ use native.Mathlib.Omega.{arith}
 use lib.ListN.{length, take, drop, take-append-drop}
 use Rattle.format.specs.Limits.{maxOthers, maxEvents}
 use Rattle.format.specs.Execution.{Execution}
-use Rattle.sheet.specs.Parse.{Parsed, refused, whole, parse}
-use Rattle.sheet.specs.Promise.{WellFormed}
-use Rattle.sheet.specs.WellSheet.{WellSheet}
-use Rattle.sheet.proofs.PromiseLaws.{promise}
-use Rattle.sheet.proofs.WellSheetLaws.{exactly}
+use Rattle.parse.specs.Parse.{Parsed, refused, whole, parse}
+use Rattle.parse.specs.Promise.{WellFormed}
+use Rattle.parse.specs.WellSheet.{WellSheet}
+use Rattle.parse.proofs.PromiseLaws.{promise}
+use Rattle.parse.proofs.WellSheetLaws.{exactly}
 use Rattle.sets.proofs.TableLaws.{bytes-mono}
 use Rattle.orders.specs.Order.{Meets}
 use Rattle.orders.specs.First.{FirstOf}

@@ -24,10 +24,10 @@ use Rattle.basis.specs.Test.{from}
 use Rattle.format.specs.Limits.{maxEvents}
 use Rattle.format.specs.Event.{readsAt}
 use Rattle.format.specs.Execution.{Execution, event, inits, others}
-use Rattle.sheet.specs.Promise.{OneRow}
-use Rattle.sheet.specs.Described.{described, Rowless}
-use Rattle.sheet.specs.WellSheet.{WellSheet}
-use Rattle.sheet.specs.Refusal.{Refusal}
+use Rattle.parse.specs.Promise.{OneRow}
+use Rattle.parse.specs.Described.{described, Rowless}
+use Rattle.parse.specs.WellSheet.{WellSheet}
+use Rattle.parse.specs.Refusal.{Refusal}
 use Rattle.orders.specs.Order.{Meets}
 use Rattle.orders.specs.First.{FirstOf}
 use Rattle.answer.specs.declared.Names.{Names}

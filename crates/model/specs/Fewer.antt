@@ -8,7 +8,7 @@ use Prim.Native.Nat.{ℕ}
 use lib.ListN.{length, take}
 use Rattle.format.specs.declared.Pair.{Pair}
 use Rattle.format.specs.Execution.{Execution}
-use Rattle.sheet.specs.WellSheet.{WellSheet}
+use Rattle.parse.specs.WellSheet.{WellSheet}
 use Rattle.orders.specs.Order.{Meets}
 use Rattle.answer.specs.declared.Settled.{Settled}
 use Rattle.answer.specs.declared.Settled.the-variants.{Orderly as AllSettled}

@@ -1,5 +1,6 @@
 -- More entries in the form of specs/Litmus.antt: those of 01's litmus table that are not marked (P), its "Mistakes that look right", and ours, which
--- see faults in the rules that 01's table does not. Tested by one statement in proofs/AllEntries.antt. Assumes nothing.
+-- see faults in the rules that 01's table does not. Tested by one statement in proofs/AllEntries.antt. The rows are printed by tests/make, as those of
+-- specs/Litmus.antt. Assumes nothing.
 --     further     the table
 use mathlib.Core.List.{List, [], _∷_}
 use lib.ListN.{replicate}
@@ -10,103 +11,106 @@ use Rattle.model.specs.Litmus.{sheet, head, unordered, sc, init, read, w
 
 unfoldable pub further : List Entry
 further =
-    -- 5. x reads 1: orderly, 0 1 2 3 4. (As 4 otherwise.)
+    -- 05-message-passing: 5. x reads 1: orderly, 0 1 2 3 4. (As 4 otherwise.)
     judged (sheet (head 2 2 ∷ init 0 (0 ∷ 0 ∷ []) ∷ write 1 unordered 0 (1 ∷ []) ∷ write 1 sc 1 (1 ∷ []) ∷ read 2 sc 1 (1 ∷ []) ∷ read 2 unordered 0 (1 ∷ []) ∷ row 3 1 2 ∷ row 4 0 1 ∷ [])) (Consistent Orderly) (0 ∷ 1 ∷ 2 ∷ 3 ∷ 4 ∷ [])
-    -- 6. As 4, all unordered: unsettled 1 4, order 0 1 2 3 4.
+    -- 06-message-passing-unordered: 6. As 4, all unordered: unsettled 1 4, order 0 1 2 3 4.
     ∷ judged (sheet (head 2 2 ∷ init 0 (0 ∷ 0 ∷ []) ∷ write 1 unordered 0 (1 ∷ []) ∷ write 1 unordered 1 (1 ∷ []) ∷ read 2 unordered 1 (1 ∷ []) ∷ read 2 unordered 0 (0 ∷ []) ∷ row 3 1 2 ∷ row 4 0 0 ∷ [])) (Consistent (Unsettled 1 4)) (0 ∷ 1 ∷ 2 ∷ 3 ∷ 4 ∷ [])
-    -- 13. At 1, memory 3: unsettled 1 2, order 0 1 2 3. (As 12 otherwise.)
+    -- 13-may-tear: 13. At 1, memory 3: unsettled 1 2, order 0 1 2 3. (As 12 otherwise.)
     ∷ judged (sheet (head 3 3 ∷ init 0 (0 ∷ 0 ∷ 0 ∷ []) ∷ write 1 unordered 1 (1 ∷ 1 ∷ []) ∷ write 2 unordered 1 (2 ∷ 2 ∷ []) ∷ read 3 unordered 1 (1 ∷ 2 ∷ []) ∷ row 3 1 1 ∷ row 3 2 2 ∷ [])) (Consistent (Unsettled 1 2)) (0 ∷ 1 ∷ 2 ∷ 3 ∷ [])
-    -- 16. 16 other events with 8,192 bytes of scratch: judged; with 8,191: refused 12. (Each of eight agents writes its own byte and reads it.)
+    -- 16a-sixteen-others: 16. 16 other events with 8,192 bytes of scratch: judged; with 8,191: refused 12. (Each of eight agents writes its own byte and reads it. The program always lends 8,192 bytes; 8,191 are tried by the harness's tests.)
     ∷ judged (sheet (head 8 8 ∷ init 0 (replicate 8 0) ∷ write 1 unordered 0 (1 ∷ []) ∷ read 1 unordered 0 (1 ∷ []) ∷ write 2 unordered 1 (2 ∷ []) ∷ read 2 unordered 1 (2 ∷ []) ∷ write 3 unordered 2 (3 ∷ []) ∷ read 3 unordered 2 (3 ∷ []) ∷ write 4 unordered 3 (4 ∷ []) ∷ read 4 unordered 3 (4 ∷ []) ∷ write 5 unordered 4 (5 ∷ []) ∷ read 5 unordered 4 (5 ∷ []) ∷ write 6 unordered 5 (6 ∷ []) ∷ read 6 unordered 5 (6 ∷ []) ∷ write 7 unordered 6 (7 ∷ []) ∷ read 7 unordered 6 (7 ∷ []) ∷ write 8 unordered 7 (8 ∷ []) ∷ read 8 unordered 7 (8 ∷ []) ∷ row 2 0 1 ∷ row 4 1 3 ∷ row 6 2 5 ∷ row 8 3 7 ∷ row 10 4 9 ∷ row 12 5 11 ∷ row 14 6 13 ∷ row 16 7 15 ∷ [])) (Consistent Orderly) (0 ∷ 1 ∷ 2 ∷ 3 ∷ 4 ∷ 5 ∷ 6 ∷ 7 ∷ 8 ∷ 9 ∷ 10 ∷ 11 ∷ 12 ∷ 13 ∷ 14 ∷ 15 ∷ 16 ∷ [])
-    -- 16, with 8,191 bytes of scratch
+    -- 16a-sixteen-others, lent a scratch of 8191 and an order buffer of 20
     ∷ lending 8191 20 (sheet (head 8 8 ∷ init 0 (replicate 8 0) ∷ write 1 unordered 0 (1 ∷ []) ∷ read 1 unordered 0 (1 ∷ []) ∷ write 2 unordered 1 (2 ∷ []) ∷ read 2 unordered 1 (2 ∷ []) ∷ write 3 unordered 2 (3 ∷ []) ∷ read 3 unordered 2 (3 ∷ []) ∷ write 4 unordered 3 (4 ∷ []) ∷ read 4 unordered 3 (4 ∷ []) ∷ write 5 unordered 4 (5 ∷ []) ∷ read 5 unordered 4 (5 ∷ []) ∷ write 6 unordered 5 (6 ∷ []) ∷ read 6 unordered 5 (6 ∷ []) ∷ write 7 unordered 6 (7 ∷ []) ∷ read 7 unordered 6 (7 ∷ []) ∷ write 8 unordered 7 (8 ∷ []) ∷ read 8 unordered 7 (8 ∷ []) ∷ row 2 0 1 ∷ row 4 1 3 ∷ row 6 2 5 ∷ row 8 3 7 ∷ row 10 4 9 ∷ row 12 5 11 ∷ row 14 6 13 ∷ row 16 7 15 ∷ [])) (Refused 12 0) []
-    -- 16, with both too short: the scratch is tested first
+    -- 16a-sixteen-others, lent a scratch of 8191 and an order buffer of 16
     ∷ lending 8191 16 (sheet (head 8 8 ∷ init 0 (replicate 8 0) ∷ write 1 unordered 0 (1 ∷ []) ∷ read 1 unordered 0 (1 ∷ []) ∷ write 2 unordered 1 (2 ∷ []) ∷ read 2 unordered 1 (2 ∷ []) ∷ write 3 unordered 2 (3 ∷ []) ∷ read 3 unordered 2 (3 ∷ []) ∷ write 4 unordered 3 (4 ∷ []) ∷ read 4 unordered 3 (4 ∷ []) ∷ write 5 unordered 4 (5 ∷ []) ∷ read 5 unordered 4 (5 ∷ []) ∷ write 6 unordered 5 (6 ∷ []) ∷ read 6 unordered 5 (6 ∷ []) ∷ write 7 unordered 6 (7 ∷ []) ∷ read 7 unordered 6 (7 ∷ []) ∷ write 8 unordered 7 (8 ∷ []) ∷ read 8 unordered 7 (8 ∷ []) ∷ row 2 0 1 ∷ row 4 1 3 ∷ row 6 2 5 ∷ row 8 3 7 ∷ row 10 4 9 ∷ row 12 5 11 ∷ row 14 6 13 ∷ row 16 7 15 ∷ [])) (Refused 12 0) []
-    -- 16, with an order buffer of 16 bytes for 17 events
+    -- 16a-sixteen-others, lent a scratch of 8192 and an order buffer of 16
     ∷ lending 8192 16 (sheet (head 8 8 ∷ init 0 (replicate 8 0) ∷ write 1 unordered 0 (1 ∷ []) ∷ read 1 unordered 0 (1 ∷ []) ∷ write 2 unordered 1 (2 ∷ []) ∷ read 2 unordered 1 (2 ∷ []) ∷ write 3 unordered 2 (3 ∷ []) ∷ read 3 unordered 2 (3 ∷ []) ∷ write 4 unordered 3 (4 ∷ []) ∷ read 4 unordered 3 (4 ∷ []) ∷ write 5 unordered 4 (5 ∷ []) ∷ read 5 unordered 4 (5 ∷ []) ∷ write 6 unordered 5 (6 ∷ []) ∷ read 6 unordered 5 (6 ∷ []) ∷ write 7 unordered 6 (7 ∷ []) ∷ read 7 unordered 6 (7 ∷ []) ∷ write 8 unordered 7 (8 ∷ []) ∷ read 8 unordered 7 (8 ∷ []) ∷ row 2 0 1 ∷ row 4 1 3 ∷ row 6 2 5 ∷ row 8 3 7 ∷ row 10 4 9 ∷ row 12 5 11 ∷ row 14 6 13 ∷ row 16 7 15 ∷ [])) (Refused 13 0) []
-    -- 16. (..) The head alone: refused 10 at 6.
+    -- 16b-seventeenth-event: 16. (..) a 17th event: refused 9. (16a with a 17th event: head 6 bytes, init 16, sixteen events of 9, so its tag is at 166.)
+    ∷ judged (sheet (head 8 8 ∷ init 0 (replicate 8 0) ∷ write 1 unordered 0 (1 ∷ []) ∷ read 1 unordered 0 (1 ∷ []) ∷ write 2 unordered 1 (2 ∷ []) ∷ read 2 unordered 1 (2 ∷ []) ∷ write 3 unordered 2 (3 ∷ []) ∷ read 3 unordered 2 (3 ∷ []) ∷ write 4 unordered 3 (4 ∷ []) ∷ read 4 unordered 3 (4 ∷ []) ∷ write 5 unordered 4 (5 ∷ []) ∷ read 5 unordered 4 (5 ∷ []) ∷ write 6 unordered 5 (6 ∷ []) ∷ read 6 unordered 5 (6 ∷ []) ∷ write 7 unordered 6 (7 ∷ []) ∷ read 7 unordered 6 (7 ∷ []) ∷ write 8 unordered 7 (8 ∷ []) ∷ read 8 unordered 7 (8 ∷ []) ∷ write 8 unordered 7 (9 ∷ []) ∷ row 2 0 1 ∷ row 4 1 3 ∷ row 6 2 5 ∷ row 8 3 7 ∷ row 10 4 9 ∷ row 12 5 11 ∷ row 14 6 13 ∷ row 16 7 15 ∷ [])) (Refused 9 166) []
+    -- 16c-head-alone: 16. (..) The head alone: refused 10 at 6.
     ∷ judged (sheet (head 1 1 ∷ [])) (Refused 10 6) []
-    -- 16. (..) Agents 8 and memory 64 pass (Each agent reads the last byte.)
+    -- 16d-agents-8-memory-64: 16. (..) Agents 8 and memory 64 pass (Each agent reads the last byte.)
     ∷ judged (sheet (head 8 64 ∷ init 0 (replicate 64 0) ∷ read 1 sc 63 (0 ∷ []) ∷ read 2 sc 63 (0 ∷ []) ∷ read 3 sc 63 (0 ∷ []) ∷ read 4 sc 63 (0 ∷ []) ∷ read 5 sc 63 (0 ∷ []) ∷ read 6 sc 63 (0 ∷ []) ∷ read 7 sc 63 (0 ∷ []) ∷ read 8 sc 63 (0 ∷ []) ∷ row 1 63 0 ∷ row 2 63 0 ∷ row 3 63 0 ∷ row 4 63 0 ∷ row 5 63 0 ∷ row 6 63 0 ∷ row 7 63 0 ∷ row 8 63 0 ∷ [])) (Consistent Orderly) (0 ∷ 1 ∷ 2 ∷ 3 ∷ 4 ∷ 5 ∷ 6 ∷ 7 ∷ 8 ∷ [])
-    -- 16. (..) 9 and 65 are refused 5.
+    -- 16e-agents-9: 16. (..) 9 and 65 are refused 5.
     ∷ judged (sheet (head 9 64 ∷ init 0 (0 ∷ []) ∷ read 1 sc 0 (0 ∷ []) ∷ row 1 0 0 ∷ [])) (Refused 5 0) []
-    -- 16. (..) 9 and 65 are refused 5.
+    -- 16f-memory-65: 16. (..) 9 and 65 are refused 5.
     ∷ judged (sheet (head 8 65 ∷ init 0 (0 ∷ []) ∷ read 1 sc 0 (0 ∷ []) ∷ row 1 0 0 ∷ [])) (Refused 5 0) []
-    -- Mistakes that look right: calling equal starts equal ranges. An sc write of width 2 at 0 by A1 and an sc read of width 1 at 0 seeing 0 by A2 is `consistent unsettled 1 2 then 0 1 2`.
+    -- 17-equal-starts-are-not-equal-ranges: Mistakes that look right: calling equal starts equal ranges. An sc write of width 2 at 0 by A1 and an sc read of width 1 at 0 seeing 0 by A2 is `consistent unsettled 1 2 then 0 1 2`.
     ∷ judged (sheet (head 2 2 ∷ init 0 (0 ∷ 0 ∷ []) ∷ write 1 sc 0 (1 ∷ 1 ∷ []) ∷ read 2 sc 0 (0 ∷ []) ∷ row 2 0 0 ∷ [])) (Consistent (Unsettled 1 2)) (0 ∷ 1 ∷ 2 ∷ [])
-    -- Beside 01's table, where no entry needs (a): A1 x=1 sc, A2 x=2 sc, A3 x reads 1 sc.
+    -- 21-synchronised-row: Beside 01's table, where no entry needs (a): A1 x=1 sc, A2 x=2 sc, A3 x reads 1 sc.
     ∷ judged (sheet (head 3 1 ∷ init 0 (0 ∷ []) ∷ write 1 sc 0 (1 ∷ []) ∷ write 2 sc 0 (2 ∷ []) ∷ read 3 sc 0 (1 ∷ []) ∷ row 3 0 1 ∷ [])) (Consistent Orderly) (0 ∷ 1 ∷ 3 ∷ 2 ∷ [])
-    -- Beside 01's table: the two writes of examples/litmus/21, A3 reads x 1 then 2, A4 reads x 2 then 1, all sc.
+    -- 22-two-readers-disagree: Beside 01's table: the same two writes as 21, A3 reads x 1 then 2, A4 reads x 2 then 1, all sc.
     ∷ judged (sheet (head 4 1 ∷ init 0 (0 ∷ []) ∷ write 1 sc 0 (1 ∷ []) ∷ write 2 sc 0 (2 ∷ []) ∷ read 3 sc 0 (1 ∷ []) ∷ read 3 sc 0 (2 ∷ []) ∷ read 4 sc 0 (2 ∷ []) ∷ read 4 sc 0 (1 ∷ []) ∷ row 3 0 1 ∷ row 4 0 2 ∷ row 5 0 2 ∷ row 6 0 1 ∷ [])) (Broken 26 Nobody) []
-    -- Beside 01's table: A1 writes 01 01 unordered at 0 width 2, A2 reads 01 00 (second byte from the init).
+    -- 23-torn-between-write-and-init: Beside 01's table: A1 writes 01 01 unordered at 0 width 2, A2 reads 01 00 (second byte from the init).
     ∷ judged (sheet (head 2 2 ∷ init 0 (0 ∷ 0 ∷ []) ∷ write 1 unordered 0 (1 ∷ 1 ∷ []) ∷ read 2 unordered 0 (1 ∷ 0 ∷ []) ∷ row 2 0 1 ∷ row 2 1 0 ∷ [])) (Consistent (Unsettled 1 2)) (0 ∷ 1 ∷ 2 ∷ [])
-    -- Beside 01's table: A1 x=1 unordered, A2 y reads 0 unordered.
+    -- 24-apart: Beside 01's table: A1 x=1 unordered, A2 y reads 0 unordered.
     ∷ judged (sheet (head 2 2 ∷ init 0 (0 ∷ 0 ∷ []) ∷ write 1 unordered 0 (1 ∷ []) ∷ read 2 unordered 1 (0 ∷ []) ∷ row 2 1 0 ∷ [])) (Consistent Orderly) (0 ∷ 1 ∷ 2 ∷ [])
-    -- Further entry 2: A1 x=1 sc, A2 x reads 0 unordered
+    -- f02-write-sc-read-unordered: Further entry 2: A1 x=1 sc, A2 x reads 0 unordered
     ∷ judged (sheet (head 2 1 ∷ init 0 (0 ∷ []) ∷ write 1 sc 0 (1 ∷ []) ∷ read 2 unordered 0 (0 ∷ []) ∷ row 2 0 0 ∷ [])) (Consistent (Unsettled 1 2)) (0 ∷ 1 ∷ 2 ∷ [])
-    -- Further entry 3: A1 x=1 unordered, A2 x reads 1 sc
+    -- f03-write-unordered-read-sc: Further entry 3: A1 x=1 unordered, A2 x reads 1 sc
     ∷ judged (sheet (head 2 1 ∷ init 0 (0 ∷ []) ∷ write 1 unordered 0 (1 ∷ []) ∷ read 2 sc 0 (1 ∷ []) ∷ row 2 0 1 ∷ [])) (Consistent (Unsettled 1 2)) (0 ∷ 1 ∷ 2 ∷ [])
-    -- Further entry 4: A1 x reads 0, A2 x reads 0, unordered
+    -- f04-two-reads: Further entry 4: A1 x reads 0, A2 x reads 0, unordered
     ∷ judged (sheet (head 2 1 ∷ init 0 (0 ∷ []) ∷ read 1 unordered 0 (0 ∷ []) ∷ read 2 unordered 0 (0 ∷ []) ∷ row 1 0 0 ∷ row 2 0 0 ∷ [])) (Consistent Orderly) (0 ∷ 1 ∷ 2 ∷ [])
-    -- Further entry 5: 5 with the agents exchanged
+    -- f05-message-passing-agents-exchanged: Further entry 5: 5 with the agents exchanged
     ∷ judged (sheet (head 2 2 ∷ init 0 (0 ∷ 0 ∷ []) ∷ read 1 sc 1 (1 ∷ []) ∷ read 1 unordered 0 (1 ∷ []) ∷ write 2 unordered 0 (1 ∷ []) ∷ write 2 sc 1 (1 ∷ []) ∷ row 1 1 4 ∷ row 2 0 3 ∷ [])) (Consistent Orderly) (0 ∷ 3 ∷ 4 ∷ 1 ∷ 2 ∷ [])
-    -- Further entry 6: 15 without its first pair
+    -- f06-markers-without-first-pair: Further entry 6: 15 without its first pair
     ∷ judged (sheet (head 3 1 ∷ init 0 (0 ∷ []) ∷ write 1 sc 0 (1 ∷ []) ∷ marker 1 ∷ write 2 sc 0 (2 ∷ []) ∷ marker 2 ∷ marker 3 ∷ read 3 unordered 0 (1 ∷ []) ∷ row 6 0 1 ∷ pair 4 5 ∷ [])) (Consistent (Unsettled 1 6)) (0 ∷ 1 ∷ 2 ∷ 3 ∷ 4 ∷ 5 ∷ 6 ∷ [])
-    -- Further entry 7: 15 without its second pair
+    -- f07-markers-without-second-pair: Further entry 7: 15 without its second pair
     ∷ judged (sheet (head 3 1 ∷ init 0 (0 ∷ []) ∷ write 1 sc 0 (1 ∷ []) ∷ marker 1 ∷ write 2 sc 0 (2 ∷ []) ∷ marker 2 ∷ marker 3 ∷ read 3 unordered 0 (1 ∷ []) ∷ row 6 0 1 ∷ pair 2 5 ∷ [])) (Consistent (Unsettled 3 6)) (0 ∷ 1 ∷ 2 ∷ 3 ∷ 4 ∷ 5 ∷ 6 ∷ [])
-    -- Further entry 8: 15, first write unordered
+    -- f08-markers-first-write-unordered: Further entry 8: 15, first write unordered
     ∷ judged (sheet (head 3 1 ∷ init 0 (0 ∷ []) ∷ write 1 unordered 0 (1 ∷ []) ∷ marker 1 ∷ write 2 sc 0 (2 ∷ []) ∷ marker 2 ∷ marker 3 ∷ read 3 unordered 0 (1 ∷ []) ∷ row 6 0 1 ∷ pair 2 5 ∷ pair 4 5 ∷ [])) (Consistent (Unsettled 1 3)) (0 ∷ 1 ∷ 2 ∷ 3 ∷ 4 ∷ 5 ∷ 6 ∷ [])
-    -- Further entry 9: 15, second write unordered
+    -- f09-markers-second-write-unordered: Further entry 9: 15, second write unordered
     ∷ judged (sheet (head 3 1 ∷ init 0 (0 ∷ []) ∷ write 1 sc 0 (1 ∷ []) ∷ marker 1 ∷ write 2 unordered 0 (2 ∷ []) ∷ marker 2 ∷ marker 3 ∷ read 3 unordered 0 (1 ∷ []) ∷ row 6 0 1 ∷ pair 2 5 ∷ pair 4 5 ∷ [])) (Consistent (Unsettled 1 3)) (0 ∷ 1 ∷ 2 ∷ 3 ∷ 4 ∷ 5 ∷ 6 ∷ [])
-    -- Further entry 10: 15, second write of width 2
+    -- f10-markers-second-write-wider: Further entry 10: 15, second write of width 2
     ∷ judged (sheet (head 3 2 ∷ init 0 (0 ∷ 0 ∷ []) ∷ write 1 sc 0 (1 ∷ []) ∷ marker 1 ∷ write 2 sc 0 (2 ∷ 2 ∷ []) ∷ marker 2 ∷ marker 3 ∷ read 3 unordered 0 (1 ∷ []) ∷ row 6 0 1 ∷ pair 2 5 ∷ pair 4 5 ∷ [])) (Consistent (Unsettled 1 3)) (0 ∷ 1 ∷ 2 ∷ 3 ∷ 4 ∷ 5 ∷ 6 ∷ [])
-    -- Further entry 11: 15, both writes of width 2
+    -- f11-markers-both-writes-wider: Further entry 11: 15, both writes of width 2
     ∷ judged (sheet (head 3 2 ∷ init 0 (0 ∷ 0 ∷ []) ∷ write 1 sc 0 (1 ∷ 1 ∷ []) ∷ marker 1 ∷ write 2 sc 0 (2 ∷ 2 ∷ []) ∷ marker 2 ∷ marker 3 ∷ read 3 unordered 0 (1 ∷ []) ∷ row 6 0 1 ∷ pair 2 5 ∷ pair 4 5 ∷ [])) (Consistent Orderly) (0 ∷ 3 ∷ 1 ∷ 2 ∷ 4 ∷ 5 ∷ 6 ∷ [])
-    -- Further entry 12: A1 x=1 unordered, x=2 sc; A2 x reads 1 sc
+    -- f12-unordered-then-sc-write: Further entry 12: A1 x=1 unordered, x=2 sc; A2 x reads 1 sc
     ∷ judged (sheet (head 2 1 ∷ init 0 (0 ∷ []) ∷ write 1 unordered 0 (1 ∷ []) ∷ write 1 sc 0 (2 ∷ []) ∷ read 2 sc 0 (1 ∷ []) ∷ row 3 0 1 ∷ [])) (Consistent (Unsettled 1 3)) (0 ∷ 1 ∷ 2 ∷ 3 ∷ [])
-    -- Further entry 13: A1 x=1 unordered, marker; A2 x=2 sc; A3 marker, x reads 1 sc; pair
+    -- f13-unordered-write-marker-sc-read: Further entry 13: A1 x=1 unordered, marker; A2 x=2 sc; A3 marker, x reads 1 sc; pair
     ∷ judged (sheet (head 3 1 ∷ init 0 (0 ∷ []) ∷ write 1 unordered 0 (1 ∷ []) ∷ marker 1 ∷ write 2 sc 0 (2 ∷ []) ∷ marker 3 ∷ read 3 sc 0 (1 ∷ []) ∷ row 5 0 1 ∷ pair 2 4 ∷ [])) (Consistent (Unsettled 1 3)) (0 ∷ 1 ∷ 2 ∷ 3 ∷ 4 ∷ 5 ∷ [])
-    -- Further entry 14: as examples/litmus/21, second write of width 2
+    -- f14-synchronised-row-wider-write: Further entry 14: as 21, second write of width 2
     ∷ judged (sheet (head 3 2 ∷ init 0 (0 ∷ 0 ∷ []) ∷ write 1 sc 0 (1 ∷ []) ∷ write 2 sc 0 (2 ∷ 2 ∷ []) ∷ read 3 sc 0 (1 ∷ []) ∷ row 3 0 1 ∷ [])) (Consistent (Unsettled 1 2)) (0 ∷ 1 ∷ 2 ∷ 3 ∷ [])
-    -- Further entry 15: as examples/litmus/21, second write unordered
+    -- f15-synchronised-row-unordered-write: Further entry 15: as 21, second write unordered
     ∷ judged (sheet (head 3 1 ∷ init 0 (0 ∷ []) ∷ write 1 sc 0 (1 ∷ []) ∷ write 2 unordered 0 (2 ∷ []) ∷ read 3 sc 0 (1 ∷ []) ∷ row 3 0 1 ∷ [])) (Consistent (Unsettled 1 2)) (0 ∷ 1 ∷ 2 ∷ 3 ∷ [])
-    -- Further entry 16: A1 x=1 sc, A2 and A3 x read 1 sc
+    -- f16-two-readers-agree: Further entry 16: A1 x=1 sc, A2 and A3 x read 1 sc
     ∷ judged (sheet (head 3 1 ∷ init 0 (0 ∷ []) ∷ write 1 sc 0 (1 ∷ []) ∷ read 2 sc 0 (1 ∷ []) ∷ read 3 sc 0 (1 ∷ []) ∷ row 2 0 1 ∷ row 3 0 1 ∷ [])) (Consistent Orderly) (0 ∷ 1 ∷ 2 ∷ 3 ∷ [])
-    -- Further entry 17: init and one write of width 2, read torn between them
+    -- f17-torn-between-init-and-write: Further entry 17: init and one write of width 2, read torn between them
     ∷ judged (sheet (head 2 2 ∷ init 0 (0 ∷ 0 ∷ []) ∷ write 1 unordered 0 (1 ∷ 1 ∷ []) ∷ read 2 unordered 0 (0 ∷ 1 ∷ []) ∷ row 2 0 0 ∷ row 2 1 1 ∷ [])) (Consistent (Unsettled 1 2)) (0 ∷ 1 ∷ 2 ∷ [])
-    -- Further entry 18: write of width 2, write of width 1, read of width 2 from both
+    -- f18-torn-between-widths: Further entry 18: write of width 2, write of width 1, read of width 2 from both
     ∷ judged (sheet (head 3 2 ∷ init 0 (0 ∷ 0 ∷ []) ∷ write 1 unordered 0 (1 ∷ 1 ∷ []) ∷ write 2 unordered 1 (2 ∷ []) ∷ read 3 unordered 0 (1 ∷ 2 ∷ []) ∷ row 3 0 1 ∷ row 3 1 2 ∷ [])) (Consistent (Unsettled 1 2)) (0 ∷ 1 ∷ 2 ∷ 3 ∷ [])
-    -- Further entry 19: width 8: two sc writes, an unordered read of both
+    -- f19-width-8-unordered-read: Further entry 19: width 8: two sc writes, an unordered read of both
     ∷ judged (sheet (head 3 8 ∷ init 0 (replicate 8 0) ∷ write 1 sc 0 (replicate 8 1) ∷ write 2 sc 0 (replicate 8 2) ∷ read 3 unordered 0 (1 ∷ 2 ∷ 2 ∷ 2 ∷ 2 ∷ 2 ∷ 2 ∷ 2 ∷ []) ∷ row 3 0 1 ∷ row 3 1 2 ∷ row 3 2 2 ∷ row 3 3 2 ∷ row 3 4 2 ∷ row 3 5 2 ∷ row 3 6 2 ∷ row 3 7 2 ∷ [])) (Consistent (Unsettled 1 3)) (0 ∷ 1 ∷ 2 ∷ 3 ∷ [])
-    -- Further entry 20: width 8: an sc and an unordered write, an sc read of both
+    -- f20-width-8-sc-read: Further entry 20: width 8: an sc and an unordered write, an sc read of both
     ∷ judged (sheet (head 3 8 ∷ init 0 (replicate 8 0) ∷ write 1 sc 0 (replicate 8 1) ∷ write 2 unordered 0 (replicate 8 2) ∷ read 3 sc 0 (1 ∷ 2 ∷ 2 ∷ 2 ∷ 2 ∷ 2 ∷ 2 ∷ 2 ∷ []) ∷ row 3 0 1 ∷ row 3 1 2 ∷ row 3 2 2 ∷ row 3 3 2 ∷ row 3 4 2 ∷ row 3 5 2 ∷ row 3 6 2 ∷ row 3 7 2 ∷ [])) (Consistent (Unsettled 1 2)) (0 ∷ 1 ∷ 2 ∷ 3 ∷ [])
-    -- Further entry 21: A1 y=1, then reads x and y with width 2, x from the init and y from its write.
+    -- f21-second-byte-newer: Further entry 21: A1 y=1, then reads x and y with width 2, x from the init and y from its write.
     ∷ judged (sheet (head 1 2 ∷ init 0 (0 ∷ 0 ∷ []) ∷ write 1 unordered 1 (1 ∷ []) ∷ read 1 unordered 0 (0 ∷ 1 ∷ []) ∷ row 2 0 0 ∷ row 2 1 1 ∷ [])) (Consistent Orderly) (0 ∷ 1 ∷ 2 ∷ [])
-    -- Further entry 22: as further entry 21, y from the init: 24 at byte 1.
+    -- f22-second-byte-stale: Further entry 22: as further entry 21, y from the init: 24 at byte 1.
     ∷ judged (sheet (head 1 2 ∷ init 0 (0 ∷ 0 ∷ []) ∷ write 1 unordered 1 (1 ∷ []) ∷ read 1 unordered 0 (0 ∷ 0 ∷ []) ∷ row 2 0 0 ∷ row 2 1 0 ∷ [])) (Broken 24 (Between 2 0 1 1)) []
-    -- Further entry 23: a read between write and read does not break 24
+    -- f23-a-read-between: Further entry 23: a read between write and read does not break 24
     ∷ judged (sheet (head 1 1 ∷ init 0 (0 ∷ []) ∷ write 1 unordered 0 (1 ∷ []) ∷ read 1 unordered 0 (1 ∷ []) ∷ read 1 unordered 0 (1 ∷ []) ∷ row 2 0 1 ∷ row 3 0 1 ∷ [])) (Consistent Orderly) (0 ∷ 1 ∷ 2 ∷ 3 ∷ [])
-    -- Further entry 24: a cycle and a wrong byte: 21 first
+    -- f24-cycle-and-wrong-byte: Further entry 24: a cycle and a wrong byte: 21 first
     ∷ judged (sheet (head 2 2 ∷ init 0 (0 ∷ 0 ∷ []) ∷ read 1 sc 0 (1 ∷ []) ∷ write 1 sc 1 (1 ∷ []) ∷ read 2 sc 1 (9 ∷ []) ∷ write 2 sc 0 (1 ∷ []) ∷ row 1 0 4 ∷ row 3 1 2 ∷ [])) (Broken 21 (OfRow 3 2 1)) []
-    -- Further entry 25: a cycle, and the later read before its writer: 22 first
+    -- f25-cycle-and-future: Further entry 25: a cycle, and the later read before its writer: 22 first
     ∷ judged (sheet (head 2 2 ∷ init 0 (0 ∷ 0 ∷ []) ∷ read 1 sc 0 (1 ∷ []) ∷ write 1 sc 0 (1 ∷ []) ∷ read 1 sc 1 (1 ∷ []) ∷ write 2 sc 1 (1 ∷ []) ∷ row 1 0 2 ∷ row 3 1 4 ∷ [])) (Broken 22 (OfEvent 1)) []
-    -- Further entry 26: 23 and 24 in one sheet, 24 in an earlier row
+    -- f26-future-before-stale: Further entry 26: 23 and 24 in one sheet, 24 in an earlier row
     ∷ judged (sheet (head 1 2 ∷ init 0 (0 ∷ 0 ∷ []) ∷ write 1 unordered 0 (1 ∷ []) ∷ read 1 unordered 0 (0 ∷ []) ∷ read 1 unordered 1 (1 ∷ []) ∷ write 1 unordered 1 (1 ∷ []) ∷ row 2 0 0 ∷ row 3 1 4 ∷ [])) (Broken 23 (OfRow 3 4 1)) []
-    -- Further entry 27: 24 and 25 in one sheet
+    -- f27-stale-before-torn: Further entry 27: 24 and 25 in one sheet
     ∷ judged (sheet (head 3 2 ∷ init 0 (0 ∷ 0 ∷ []) ∷ write 1 unordered 0 (1 ∷ 1 ∷ []) ∷ write 2 unordered 0 (2 ∷ 2 ∷ []) ∷ read 3 unordered 0 (1 ∷ 2 ∷ []) ∷ write 3 unordered 0 (3 ∷ 3 ∷ []) ∷ read 3 unordered 0 (0 ∷ 3 ∷ []) ∷ row 3 0 1 ∷ row 3 1 2 ∷ row 5 0 0 ∷ row 5 1 4 ∷ [])) (Broken 24 (Between 5 0 4 0)) []
-    -- Further entry 28: two broken rows of 24, the first row named, and its lowest V
+    -- f28-first-row-lowest-v: Further entry 28: two broken rows of 24, the first row named, and its lowest V
     ∷ judged (sheet (head 1 1 ∷ init 0 (0 ∷ []) ∷ write 1 unordered 0 (1 ∷ []) ∷ write 1 unordered 0 (2 ∷ []) ∷ read 1 unordered 0 (0 ∷ []) ∷ read 1 unordered 0 (1 ∷ []) ∷ row 3 0 0 ∷ row 4 0 1 ∷ [])) (Broken 24 (Between 3 0 1 0)) []
-    -- Further entry 29: a read-modify-write as the V of 24.
+    -- f29-read-modify-write-between: Further entry 29: a read-modify-write as the V of 24.
     ∷ judged (sheet (head 1 1 ∷ init 0 (0 ∷ []) ∷ modify 1 0 (0 ∷ []) (1 ∷ []) ∷ read 1 unordered 0 (0 ∷ []) ∷ row 1 0 0 ∷ row 2 0 0 ∷ [])) (Broken 24 (Between 2 0 1 0)) []
-    -- Further entry 30: two inits
+    -- f30-two-inits: Further entry 30: two inits
     ∷ judged (sheet (head 2 2 ∷ init 0 (0 ∷ []) ∷ init 1 (0 ∷ []) ∷ write 1 unordered 1 (1 ∷ []) ∷ read 2 unordered 0 (0 ∷ []) ∷ row 3 0 0 ∷ [])) (Consistent Orderly) (0 ∷ 1 ∷ 2 ∷ 3 ∷ [])
-    -- Further entry 31: a read-modify-write chain: A1 x 0->1, A2 x 1->2, A3 x reads 2 unordered
+    -- f31-read-modify-write-chain: Further entry 31: a read-modify-write chain: A1 x 0->1, A2 x 1->2, A3 x reads 2 unordered
     ∷ judged (sheet (head 3 1 ∷ init 0 (0 ∷ []) ∷ modify 1 0 (0 ∷ []) (1 ∷ []) ∷ modify 2 0 (1 ∷ []) (2 ∷ []) ∷ read 3 unordered 0 (2 ∷ []) ∷ row 1 0 0 ∷ row 2 0 1 ∷ row 3 0 2 ∷ [])) (Consistent (Unsettled 1 3)) (0 ∷ 1 ∷ 2 ∷ 3 ∷ [])
-    -- Further entry 32: 12 with width 4
+    -- f32-width-4-torn: Further entry 32: 12 with width 4
     ∷ judged (sheet (head 3 4 ∷ init 0 (replicate 4 0) ∷ write 1 unordered 0 (replicate 4 1) ∷ write 2 unordered 0 (replicate 4 2) ∷ read 3 unordered 0 (1 ∷ 2 ∷ 2 ∷ 2 ∷ []) ∷ row 3 0 1 ∷ row 3 1 2 ∷ row 3 2 2 ∷ row 3 3 2 ∷ [])) (Broken 25 (Torn 3 1 2)) []
-    -- Further entry 33: width 8, all sc, an sc read of both writes
+    -- f33-width-8-all-sc-torn: Further entry 33: width 8, all sc, an sc read of both writes
     ∷ judged (sheet (head 3 8 ∷ init 0 (replicate 8 0) ∷ write 1 sc 0 (replicate 8 1) ∷ write 2 sc 0 (replicate 8 2) ∷ read 3 sc 0 (1 ∷ 2 ∷ 2 ∷ 2 ∷ 2 ∷ 2 ∷ 2 ∷ 2 ∷ []) ∷ row 3 0 1 ∷ row 3 1 2 ∷ row 3 2 2 ∷ row 3 3 2 ∷ row 3 4 2 ∷ row 3 5 2 ∷ row 3 6 2 ∷ row 3 7 2 ∷ [])) (Broken 25 (Torn 3 1 2)) []
-    -- 01's example needs one byte of scratch, and no more; with none: 12
+    -- 01-example, lent a scratch of 1 and an order buffer of 2
     ∷ lending 1 2 example (Consistent Orderly) (0 ∷ 1 ∷ [])
+    -- 01-example, lent a scratch of 0 and an order buffer of 2
     ∷ lending 0 2 example (Refused 12 0) []
     ∷ []

@@ -15,7 +15,7 @@ use Prim.Native.Nat.{ℕ}
 use lib.Dec.{ltb}
 use lib.ListN.{length, take, drop}
 use Rattle.format.specs.Execution.{Execution, others}
-use Rattle.sheet.specs.Parse.{Parsed, refused, whole, parse}
+use Rattle.parse.specs.Parse.{Parsed, refused, whole, parse}
 use Rattle.sets.specs.Table.{bytesFor, cleared}
 use Rattle.orders.specs.Order.{Meets}
 use Rattle.orders.specs.First.{FirstOf}

@@ -1,5 +1,6 @@
 -- The litmus table (01), the entries marked (P): sheets as bytes, what is lent, and what comes back. Tested by one statement, proofs/AllEntries.antt, and made into `Judged`
--- each by one law: proofs/Litmus.antt. The other entries: specs/Further.antt.
+-- each by one law: proofs/Litmus.antt. The other entries: specs/Further.antt. `example` and the rows of both tables are printed from
+-- examples/litmus/litmus.src by tests/make; the gate compares them.
 --     field, sheet, head, init, read, write, modify, marker, row, pair     the bytes of fields
 --     Entry                                                                a sheet, the lengths of both buffers, the answer, the order
 --     example, proved                                                      01's whole example; the table
@@ -63,41 +64,40 @@ pub record Entry : Type 0 where
 abbrev pub lending : ℕ → ℕ → List ℕ → Answer → List ℕ → Entry
 lending room places s a o = record { room = room; places = places; sheet = s; answer = a; order = o }
 
--- with 8,192 bytes of scratch, as the program lends, and an order buffer for the 20 events that there can be (the program lends 32 bytes)
+-- with 8,192 bytes of scratch and an order buffer for the 20 events that there can be, as the program lends
 abbrev pub judged : List ℕ → Answer → List ℕ → Entry
 judged s a o = lending 8192 20 s a o
 
 -- 01: "Whole example, 30 bytes in hexadecimal: 01 00 03 01 01 01, 02 00 06 00 02 00 00 01 00, 02 00 06 01 01 01 00 01 00, 03 00 03 01 00 00."
 abbrev pub example : List ℕ
 example =
-    (1 ∷ 0 ∷ 3 ∷ 1 ∷ 1 ∷ 1 ∷ []) ++ (2 ∷ 0 ∷ 6 ∷ 0 ∷ 2 ∷ 0 ∷ 0 ∷ 1 ∷ 0 ∷ []) ++ (2 ∷ 0 ∷ 6 ∷ 1 ∷ 1 ∷ 1 ∷ 0 ∷ 1 ∷ 0 ∷ [])
-    ++ (3 ∷ 0 ∷ 3 ∷ 1 ∷ 0 ∷ 0 ∷ [])
+    (1 ∷ 0 ∷ 3 ∷ 1 ∷ 1 ∷ 1 ∷ []) ++ (2 ∷ 0 ∷ 6 ∷ 0 ∷ 2 ∷ 0 ∷ 0 ∷ 1 ∷ 0 ∷ []) ++ (2 ∷ 0 ∷ 6 ∷ 1 ∷ 1 ∷ 1 ∷ 0 ∷ 1 ∷ 0 ∷ []) ++ (3 ∷ 0 ∷ 3 ∷ 1 ∷ 0 ∷ 0 ∷ [])
 
 -- Marked (P).
 unfoldable pub proved : List Entry
 proved =
-    -- 1. The example: consistent
+    -- 01-example: 1. (P) The example: consistent. Whole example, 30 bytes. Line: `consistent orderly then 0 1`.
     judged example (Consistent Orderly) (0 ∷ 1 ∷ [])
-    -- 2. Its last field removed: refused 11 at 15
+    -- 02-row-removed: 2. (P) Its last field removed: refused 11 at 15. A mistake that looks right: letting an absent row mean "any value". This must be refused.
     ∷ judged (sheet (head 1 1 ∷ init 0 (0 ∷ []) ∷ read 1 unordered 0 (0 ∷ []) ∷ [])) (Refused 11 15) []
-    -- 3. Its read byte 07: broken 21 1 0 - 0
+    -- 03-another-byte: 3. (P) Its read byte 07: `broken 21 1 0 - 0`.
     ∷ judged (sheet (head 1 1 ∷ init 0 (0 ∷ []) ∷ read 1 unordered 0 (7 ∷ []) ∷ row 1 0 0 ∷ [])) (Broken 21 (OfRow 1 0 0)) []
-    -- 4. A1: x=1 unordered, y=1 sc. A2: y reads 1 sc, x reads 0 unordered: broken 24 4 0 1 0
+    -- 04-message-passing-stale: 4. (P) A1: x=1 unordered, y=1 sc. A2: y reads 1 sc, x reads 0 unordered: `broken 24 4 0 1 0`.
     ∷ judged (sheet (head 2 2 ∷ init 0 (0 ∷ 0 ∷ []) ∷ write 1 unordered 0 (1 ∷ []) ∷ write 1 sc 1 (1 ∷ []) ∷ read 2 sc 1 (1 ∷ []) ∷ read 2 unordered 0 (0 ∷ []) ∷ row 3 1 2 ∷ row 4 0 0 ∷ [])) (Broken 24 (Between 4 0 1 0)) []
-    -- 7. All sc, A1: x=1, y reads 0. A2: y=1, x reads 0: broken 26 - - - -
+    -- 07-store-buffering: 7. (P) All sc, A1: x=1, y reads 0. A2: y=1, x reads 0: `broken 26 - - - -`. A mistake that looks right: dropping (b) or (c) because (a) looks complete. 7 would pass without (c).
     ∷ judged (sheet (head 2 2 ∷ init 0 (0 ∷ 0 ∷ []) ∷ write 1 sc 0 (1 ∷ []) ∷ read 1 sc 1 (0 ∷ []) ∷ write 2 sc 1 (1 ∷ []) ∷ read 2 sc 0 (0 ∷ []) ∷ row 2 1 0 ∷ row 4 0 0 ∷ [])) (Broken 26 Nobody) []
-    -- 8. Unordered: unsettled 1 4, order 0 1 2 3 4
+    -- 08-store-buffering-unordered: 8. (P) Unordered: unsettled 1 4, order 0 1 2 3 4. (As 7 otherwise.) A mistake that looks right: taking source document 004's race as the test for orderly. 8 would be orderly, and no serial run explains it.
     ∷ judged (sheet (head 2 2 ∷ init 0 (0 ∷ 0 ∷ []) ∷ write 1 unordered 0 (1 ∷ []) ∷ read 1 unordered 1 (0 ∷ []) ∷ write 2 unordered 1 (1 ∷ []) ∷ read 2 unordered 0 (0 ∷ []) ∷ row 2 1 0 ∷ row 4 0 0 ∷ [])) (Consistent (Unsettled 1 4)) (0 ∷ 1 ∷ 2 ∷ 3 ∷ 4 ∷ [])
-    -- 9. sc, y reads 1 and x reads 0: orderly, 0 3 4 1 2
+    -- 09-store-buffering-one-sees: 9. (P) sc, y reads 1 and x reads 0: orderly, 0 3 4 1 2. (As 7 otherwise.) A mistake that looks right: testing only the order in which events appear. 9 would be broken.
     ∷ judged (sheet (head 2 2 ∷ init 0 (0 ∷ 0 ∷ []) ∷ write 1 sc 0 (1 ∷ []) ∷ read 1 sc 1 (1 ∷ []) ∷ write 2 sc 1 (1 ∷ []) ∷ read 2 sc 0 (0 ∷ []) ∷ row 2 1 3 ∷ row 4 0 0 ∷ [])) (Consistent Orderly) (0 ∷ 3 ∷ 4 ∷ 1 ∷ 2 ∷ [])
-    -- 10. All sc, A1: x reads 1, y=1. A2: y reads 1, x=1: broken 22 1 - - -
+    -- 10-load-buffering: 10. (P) All sc, A1: x reads 1, y=1. A2: y reads 1, x=1: `broken 22 1 - - -`.
     ∷ judged (sheet (head 2 2 ∷ init 0 (0 ∷ 0 ∷ []) ∷ read 1 sc 0 (1 ∷ []) ∷ write 1 sc 1 (1 ∷ []) ∷ read 2 sc 1 (1 ∷ []) ∷ write 2 sc 0 (1 ∷ []) ∷ row 1 0 4 ∷ row 3 1 2 ∷ [])) (Broken 22 (OfEvent 1)) []
-    -- 11. A1 unordered: x reads 1 from the following x=1: broken 23 1 2 - 0
+    -- 11-from-the-future: 11. (P) A1 unordered: x reads 1 from the following x=1: `broken 23 1 2 - 0`.
     ∷ judged (sheet (head 1 1 ∷ init 0 (0 ∷ []) ∷ read 1 unordered 0 (1 ∷ []) ∷ write 1 unordered 0 (1 ∷ []) ∷ row 1 0 2 ∷ [])) (Broken 23 (OfRow 1 2 0)) []
-    -- 12. A1, A2 write 0101, 0202 unordered at 0, width 2; A3 reads 01 02 unordered: broken 25 3 1 2 -
+    -- 12-torn: 12. (P) A1, A2 write 0101, 0202 unordered at 0, width 2; A3 reads 01 02 unordered: `broken 25 3 1 2 -`.
     ∷ judged (sheet (head 3 2 ∷ init 0 (0 ∷ 0 ∷ []) ∷ write 1 unordered 0 (1 ∷ 1 ∷ []) ∷ write 2 unordered 0 (2 ∷ 2 ∷ []) ∷ read 3 unordered 0 (1 ∷ 2 ∷ []) ∷ row 3 0 1 ∷ row 3 1 2 ∷ [])) (Broken 25 (Torn 3 1 2)) []
-    -- 14. A1, A2: read-modify-write of x, both read 0: broken 26
+    -- 14-two-read-modify-writes: 14. (P) A1, A2: read-modify-write of x, both read 0: broken 26.
     ∷ judged (sheet (head 2 1 ∷ init 0 (0 ∷ []) ∷ modify 1 0 (0 ∷ []) (1 ∷ []) ∷ modify 2 0 (0 ∷ []) (2 ∷ []) ∷ row 1 0 0 ∷ row 2 0 0 ∷ [])) (Broken 26 Nobody) []
-    -- 15. A1: x=1 sc, marker. A2: x=2 sc, marker. A3: marker, x reads 1 unordered. Pairs (2,5), (4,5): orderly, 0 3 1 2 4 5 6
+    -- 15-markers: 15. (P) A1: x=1 sc, marker. A2: x=2 sc, marker. A3: marker, x reads 1 unordered. Pairs (2,5), (4,5): orderly, 0 3 1 2 4 5 6. A mistake that looks right: dropping (b) or (c) because (a) looks complete. 15 would report 0 1 2 3 4 5 6 without (b).
     ∷ judged (sheet (head 3 1 ∷ init 0 (0 ∷ []) ∷ write 1 sc 0 (1 ∷ []) ∷ marker 1 ∷ write 2 sc 0 (2 ∷ []) ∷ marker 2 ∷ marker 3 ∷ read 3 unordered 0 (1 ∷ []) ∷ row 6 0 1 ∷ pair 2 5 ∷ pair 4 5 ∷ [])) (Consistent Orderly) (0 ∷ 3 ∷ 1 ∷ 2 ∷ 4 ∷ 5 ∷ 6 ∷ [])
     ∷ []

@@ -12,7 +12,7 @@ use Prim.Native.Nat.{ℕ, _≤_, _<_}
 use lib.Dec.{T}
 use lib.ListN.{length}
 use Rattle.format.specs.Execution.{Execution}
-use Rattle.sheet.specs.Promise.{row}
+use Rattle.parse.specs.Promise.{row}
 use Rattle.orders.specs.Order.{Meets}
 use Rattle.orders.specs.First.{Lex}
 use Rattle.answer.specs.declared.Names.{Names}

@@ -12,8 +12,8 @@ use Prim.Native.Nat.{ℕ, _<_}
 use lib.ListN.{length, drop}
 use Rattle.format.specs.Limits.{maxOthers, maxEvents}
 use Rattle.format.specs.Execution.{Execution}
-use Rattle.sheet.specs.Parse.{refused, parse}
-use Rattle.sheet.specs.WellSheet.{WellSheet}
+use Rattle.parse.specs.Parse.{refused, parse}
+use Rattle.parse.specs.WellSheet.{WellSheet}
 use Rattle.sets.specs.Table.{bytesFor}
 use Rattle.orders.specs.Order.{In, Meets}
 use Rattle.orders.specs.First.{FirstOf}

@@ -33,12 +33,12 @@ fn told(s: &[u8]) {
         }
         Reading::Whole => {
             io::write_all(STDOUT_FILENO, b"read");
-            number(o.sheet.head.agents as u64);
-            number(o.sheet.head.size as u64);
-            number(o.sheet.inits as u64);
-            number(o.sheet.events as u64);
-            number(o.sheet.rows as u64);
-            number(o.sheet.pairs as u64);
+            number(o.counts.head.agents as u64);
+            number(o.counts.head.size as u64);
+            number(o.counts.inits as u64);
+            number(o.counts.events as u64);
+            number(o.counts.rows as u64);
+            number(o.counts.pairs as u64);
         }
     }
     io::write_all(STDOUT_FILENO, b"\n");

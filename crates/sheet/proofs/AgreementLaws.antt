@@ -14,26 +14,27 @@ use Rattle.format.specs.Limits.{slots}
 use Rattle.format.specs.Event.{Event}
 use Rattle.format.specs.Execution.{Execution, inits}
 use Rattle.format.specs.Field.{fieldPlace}
-use Rattle.sheet.specs.declared.Sheet.{Sheet}
 use Rattle.sheet.specs.declared.Reading.{Reading}
 use Rattle.sheet.specs.declared.Reading.the-variants.{Refused, Whole}
 use Rattle.sheet.specs.declared.Outcome.{Outcome}
-use Rattle.sheet.specs.Parse.{refused, whole, parse}
-use Rattle.sheet.specs.Handed.{eventsIn, rowsIn, pairsIn, execution, Laid, HandedRefusal, HandedWhole, Told, Handed, blankSheet, blankPlaces}
-use Rattle.sheet.proofs.HandedLaws.{events-count, rows-count, pairs-count}
+use Rattle.parse.specs.Parse.{refused, whole}
+use Rattle.entries.specs.declared.Counts.{Counts}
+use Rattle.entries.specs.Entries.{execution}
+use Rattle.entries.proofs.EntriesLaws.{events-count, rows-count, pairs-count}
+use Rattle.sheet.specs.Handed.{Laid, HandedAs, Handed}
 
 -- the same fields, the same struct
-sheet-path : {h h′ : Head} {i i′ e e′ ra ra′ r r′ pa pa′ p p′ : ℕ} → h ≡ h′ → i ≡ i′ → e ≡ e′ → ra ≡ ra′ → r ≡ r′ → pa ≡ pa′ → p ≡ p′
-    → _≡_ {A = Sheet}
+counts-path : {h h′ : Head} {i i′ e e′ ra ra′ r r′ pa pa′ p p′ : ℕ} → h ≡ h′ → i ≡ i′ → e ≡ e′ → ra ≡ ra′ → r ≡ r′ → pa ≡ pa′ → p ≡ p′
+    → _≡_ {A = Counts}
     (record { head = h; inits = i; events = e; «rows_at» = ra; rows = r; «pairs_at» = pa; pairs = p })
     (record { head = h′; inits = i′; events = e′; «rows_at» = ra′; rows = r′; «pairs_at» = pa′; pairs = p′ })
-sheet-path a b c d e f g = λ i. record { head = a i; inits = b i; events = c i; «rows_at» = d i; rows = e i; «pairs_at» = f i; pairs = g i }
+counts-path a b c d e f g = λ i. record { head = a i; inits = b i; events = c i; «rows_at» = d i; rows = e i; «pairs_at» = f i; pairs = g i }
 
-outcome-path : {r r′ : Reading} {x x′ : Sheet} {at at′ : List ℕ} → r ≡ r′ → x ≡ x′ → at ≡ at′
-    → _≡_ {A = Outcome} (record { reading = r; sheet = x; at = at }) (record { reading = r′; sheet = x′; at = at′ })
-outcome-path a b c = λ i. record { reading = a i; sheet = b i; at = c i }
+outcome-path : {r r′ : Reading} {x x′ : Counts} {at at′ : List ℕ} → r ≡ r′ → x ≡ x′ → at ≡ at′
+    → _≡_ {A = Outcome} (record { reading = r; counts = x; at = at }) (record { reading = r′; counts = x′; at = at′ })
+outcome-path a b c = λ i. record { reading = a i; counts = b i; at = c i }
 
-module _ (s : List ℕ) (x y : Sheet) (at bt : List ℕ) (l : Laid s x at) (m : Laid s y bt) (e : execution s x at ≡ execution s y bt) where
+module _ (s : List ℕ) (x y : Counts) (at bt : List ℕ) (l : Laid s x at) (m : Laid s y bt) (e : execution s x at ≡ execution s y bt) where
   events-same : x .events ≡ y .events
   events-same =
       let f = l .few in let g = m .few in let c = l .size in let d = m .size in
@@ -48,16 +49,16 @@ module _ (s : List ℕ) (x y : Sheet) (at bt : List ℕ) (l : Laid s x at) (m : 
   pairs-same : x .pairs ≡ y .pairs
   pairs-same = sym (pairs-count s (x .«pairs_at») (x .pairs)) ∙ ap {B = ℕ} (λ (z : Execution). length (z .pairs)) e ∙ pairs-count s (y .«pairs_at») (y .pairs)
 
-  sheets-same : x ≡ y
-  sheets-same =
+  counts-same : x ≡ y
+  counts-same =
       let n = events-same in
       let r = rows-same in
-      sheet-path (ap {B = Head} (λ (z : Execution). z .head) e) (l .inits ∙ ap {B = ℕ} (λ (z : Execution). inits (z .events)) e ∙ sym (m .inits)) n
+      counts-path (ap {B = Head} (λ (z : Execution). z .head) e) (l .inits ∙ ap {B = ℕ} (λ (z : Execution). inits (z .events)) e ∙ sym (m .inits)) n
       (l .rows-at ∙ ap (λ (k : ℕ). fieldPlace s (suc k)) n ∙ sym (m .rows-at)) r
       (l .pairs-at ∙ (let q : x .events + x .rows ≡ y .events + y .rows = omega arith in ap (λ (k : ℕ). fieldPlace s (suc k)) q) ∙ sym (m .pairs-at)) pairs-same
 
   -- a place that no event uses
-  unused-at : (z : Sheet) (ct : List ℕ) → Laid s z ct → (i : ℕ) → z .events ≤ i → i < slots → getD ct i 0 ≡ 0
+  unused-at : (z : Counts) (ct : List ℕ) → Laid s z ct → (i : ℕ) → z .events ≤ i → i < slots → getD ct i 0 ≡ 0
   unused-at z ct k i b c =
       let q : z .events + (i - z .events) ≡ i = omega arith in
       ap (λ (j : ℕ). getD ct j 0) (sym q) ∙ sym (getD-drop (z .events) ct (i - z .events) 0) ∙ ap (λ (j : List ℕ). getD j (i - z .events) 0) (k .unused)
@@ -75,21 +76,21 @@ module _ (s : List ℕ) (x y : Sheet) (at bt : List ℕ) (l : Laid s x at) (m : 
               let q = ltb-false i (x .events) p in let n = events-same in let z = l .size in
               unused-at x at l i q (omega arith) ∙ sym (unused-at y bt m i (omega arith) (omega arith))
 
-told-unique : (s : List ℕ) (r q : Reading) (x y : Sheet) (at bt : List ℕ) → Told s r x at → Told s q y bt
-    → _≡_ {A = Outcome} (record { reading = r; sheet = x; at = at }) (record { reading = q; sheet = y; at = bt })
-told-unique s (Refused n p) (Refused m o) x y at bt a b =
+as-unique : (s : List ℕ) (r q : Reading) (x y : Counts) (at bt : List ℕ) → HandedAs s r x at → HandedAs s q y bt
+    → _≡_ {A = Outcome} (record { reading = r; counts = x; at = at }) (record { reading = q; counts = y; at = bt })
+as-unique s (Refused n p) (Refused m o) x y at bt a b =
     let e : refused n p ≡ refused m o = sym (a .says) ∙ b .says in
     let f : n ≡ m = cc in
     let g : p ≡ o = cc in
-    outcome-path (λ i. Refused (f i) (g i)) (a .no-sheet ∙ sym (b .no-sheet)) (a .no-places ∙ sym (b .no-places))
-told-unique s (Refused n p) Whole x y at bt a b =
+    outcome-path (λ i. Refused (f i) (g i)) (a .no-counts ∙ sym (b .no-counts)) (a .no-places ∙ sym (b .no-places))
+as-unique s (Refused n p) Whole x y at bt a b =
     let e : refused n p ≡ whole (execution s y bt) = sym (a .says) ∙ b .says in absurd (let z : _≡_ {A = ℕ} 0 1 = cc e in omega arith)
-told-unique s Whole (Refused n p) x y at bt a b =
+as-unique s Whole (Refused n p) x y at bt a b =
     let e : whole (execution s x at) ≡ refused n p = sym (a .says) ∙ b .says in absurd (let z : _≡_ {A = ℕ} 0 1 = cc e in omega arith)
-told-unique s Whole Whole x y at bt a b =
+as-unique s Whole Whole x y at bt a b =
     let e : whole (execution s x at) ≡ whole (execution s y bt) = sym (a .says) ∙ b .says in
     let f : execution s x at ≡ execution s y bt = cc e in
-    outcome-path refl (sheets-same s x y at bt (a .laid) (b .laid) f) (places-same s x y at bt (a .laid) (b .laid) f)
+    outcome-path refl (counts-same s x y at bt (a .laid) (b .laid) f) (places-same s x y at bt (a .laid) (b .laid) f)
 
 pub handed-unique : (s : List ℕ) (o q : Outcome) → Handed s o → Handed s q → o ≡ q
-handed-unique s o q a b = told-unique s (o .reading) (q .reading) (o .sheet) (q .sheet) (o .at) (q .at) a b
+handed-unique s o q a b = as-unique s (o .reading) (q .reading) (o .counts) (q .counts) (o .at) (q .at) a b

@@ -15,7 +15,7 @@ use lib.Dec.{ltb, eqb}
 use lib.ListN.{length, getD, take, drop, set, replicate, length-set, length-replicate}
 use lib.Seq.{take-suc-set, drop-set-lt, drop-drop, getD-set-same, getD-set-other}
 use Rattle.basis.specs.Test.{non, number}
-use Rattle.basis.proofs.LoopLaws.{number-snoc}
+use Rattle.basis.proofs.LoopLaws.{number-snoc, number-both}
 use Rattle.format.specs.declared.Head.{Head}
 use Rattle.format.specs.declared.Row.{Row}
 use Rattle.format.specs.declared.Pair.{Pair}
@@ -23,14 +23,17 @@ use Rattle.format.specs.Limits.{maxBytes, maxInits, maxOthers, slots}
 use Rattle.format.specs.Event.{Event, isInit}
 use Rattle.format.specs.Execution.{Execution, inits, others}
 use Rattle.format.specs.Field.{fieldBytes, tagAt, lengthAt, nextAt, valueAt, fieldPlace}
-use Rattle.format.specs.Layout.{eventBytes, headOf, agentOf, shapeOf, eventOf, rowOf, pairOf, rowBytes, rowGap, pairGap}
-use Rattle.sheet.specs.declared.Sheet.{Sheet}
-use Rattle.sheet.specs.Content.{eventFits, dataBytes, roomFor}
-use Rattle.sheet.specs.Parse.{State, refused, placeOf, blank, eventFault, faultAt, taken, after, finish, fieldsFrom, parse}
-use Rattle.sheet.specs.Handed.{spaced, eventAt, rowAt, pairAt, eventsOn, rowsOn, pairsOn, eventsIn, execution, blankSheet, blankPlaces}
+use Rattle.format.specs.Layout.{editionOf, headOf, agentOf, eventOf, rowOf, pairOf, rowBytes, rowGap, pairGap}
+use Rattle.content.specs.Content.{roomFor}
+use Rattle.content.proofs.ContentLaws.{room-init, room-other}
+use Rattle.parse.specs.Parse.{State, refused, placeOf, blank, faultAt, taken, after, finish, fieldsFrom, parse}
+use Rattle.parse.proofs.ParseLaws.{event-passed, inside, was-none, was-2, was-3, was-4, event-clean, row-length, pair-length, at-start, at-end, at-fault, at-next}
+use Rattle.entries.specs.declared.Counts.{Counts}
+use Rattle.entries.specs.Entries.{spaced, eventAt, rowAt, pairAt, eventsOn, rowsOn, pairsOn, eventsIn}
+use Rattle.entries.proofs.EntriesLaws.{events-count, spaced-more}
+use Rattle.sheet.specs.Handed.{blankCounts, blankPlaces}
 use Rattle.sheet.specs.Between.{view, Counted, Between, Ready, Advanced, withHead, withEvent, withRow, withPair, Through}
-use Rattle.sheet.proofs.HandedLaws.{spaced-more, others-count, inits-fit}
-use Rattle.sheet.proofs.ParseLaws.{no-fault, no-fault-non, inside, value-length, was-none, was-2, was-3, was-4, event-clean, row-length, pair-length, at-start, at-end, at-fault, at-next}
+use Rattle.sheet.proofs.TakenLaws.{value-event, value-row, value-pair}
 
 -- ---- lists, one thing more
 
@@ -87,44 +90,25 @@ unused-more at n m p h e =
     drop-set-lt (n + 1) at n p (omega arith) ∙ sym (drop-drop 1 n at) ∙ ap (drop {A = ℕ} 1) e ∙ zeros-less (m - n) (omega arith)
     ∙ (let d : m - n - 1 ≡ m - (n + 1) = omega arith in ap (λ (k : ℕ). replicate {A = ℕ} k 0) d)
 
--- ---- room for an event, and what it is
-
-module _ (h : Head) (events : List Event) (v : List ℕ) (e : eventFault h events v ≡ 0) where
-  pub event-fits : eventFits h events (agentOf v) (shapeOf v) ≡ true
-  unfolding eventFault
-  event-fits =
-      let a = no-fault (ltb (length v) (eventBytes (h .edition))) 3 _ e .1 in no-fault-non (eventFits h events (agentOf v) (shapeOf v)) 5 _ a .0
-
-  pub event-length : length v ≡ eventBytes (h .edition) + dataBytes (shapeOf v)
-  unfolding eventFault
-  event-length =
-      let a = no-fault (ltb (length v) (eventBytes (h .edition))) 3 _ e .1 in
-      let b = no-fault-non (eventFits h events (agentOf v) (shapeOf v)) 5 _ a .1 in
-      eqb-true _ _ (no-fault-non (eqb (length v) (eventBytes (h .edition) + dataBytes (shapeOf v))) 3 _ b .0)
-
-  pub event-room : roomFor events (agentOf v) ≡ true
-  unfolding eventFault
-  event-room =
-      let a = no-fault (ltb (length v) (eventBytes (h .edition))) 3 _ e .1 in
-      let b = no-fault-non (eventFits h events (agentOf v) (shapeOf v)) 5 _ a .1 in
-      let d = no-fault-non (eqb (length v) (eventBytes (h .edition) + dataBytes (shapeOf v))) 3 _ b .1 in
-      no-fault-non (roomFor events (agentOf v)) 8 _ d .0
-
-pub room-init : (events : List Event) (agent : ℕ) → roomFor events agent ≡ true → eqb agent 0 ≡ true → inits events < maxInits
-unfolding roomFor
-room-init events agent r e = ltb-true _ _ (rw e at r)
-
-pub room-other : (events : List Event) (agent : ℕ) → roomFor events agent ≡ true → eqb agent 0 ≡ false → others events < maxOthers
-unfolding roomFor
-room-other events agent r e = ltb-true _ _ (rw e at r)
-
 -- ---- a field taken, by its tag
 
-pub counted-of : (s : List ℕ) (p last : ℕ) (x : Sheet) (at : List ℕ) → Between s p last x at → Counted s x at
+pub counted-of : (s : List ℕ) (p last : ℕ) (x : Counts) (at : List ℕ) → Between s p last x at → Counted s x at
 counted-of s p last x at b =
-    record { room = let z = b .size in let i = b .few-inits in let o = b .few-others in omega arith; inits = b .inits; held = b .held; rows-held = b .rows-held }
+    record { room = let z = b .size in let i = b .few-inits in let o = b .few-others in omega arith; inits = b .inits }
 
-module _ (s : List ℕ) (p last : ℕ) (x : Sheet) (at : List ℕ) (r : Ready s p last x at) where
+-- the events that are no inits
+module _ (s : List ℕ) (x : Counts) (at : List ℕ) (k : Counted s x at) where
+  inits-others : x .inits + others (eventsIn s x at) ≡ x .events
+  unfolding inits others
+  inits-others = rw (k .inits) (number-both isInit (eventsIn s x at) ∙ events-count s (x .head .edition) (x .events) at (k .room))
+
+  pub others-count : others (eventsIn s x at) ≡ x .events - x .inits
+  others-count = let e = inits-others in omega arith
+
+  pub inits-fit : x .inits ≤ x .events
+  inits-fit = let e = inits-others in omega arith
+
+module _ (s : List ℕ) (p last : ℕ) (x : Counts) (at : List ℕ) (r : Ready s p last x at) where
   abbrev b : Between s p last x at
   b = r .between
 
@@ -137,7 +121,7 @@ module _ (s : List ℕ) (p last : ℕ) (x : Sheet) (at : List ℕ) (r : Ready s 
   pub ready-next : next ≤ maxBytes
   ready-next = let i = inside s p st (r .clean) in let k = r .short in omega arith
 
-  pub head-taken : tagAt s p ≡ 1 → Advanced s p last x at (withHead (headOf (valueAt s p)) next) at
+  pub head-taken : tagAt s p ≡ 1 → Advanced s p last x at (withHead (headOf (editionOf (valueAt s p)) (valueAt s p)) next) at
   unfolding after taken inits eventsOn number fieldPlace rowsOn pairsOn spaced
   head-taken e =
       let w = was-none s p st (r .clean) e in
@@ -163,17 +147,15 @@ module _ (s : List ℕ) (p last : ℕ) (x : Sheet) (at : List ℕ) (r : Ready s 
               places = λ i l. absurd (omega arith);
               rows-at = λ _. f;
               pairs-at = λ _. f;
-              held = λ i l. absurd (omega arith);
-              rows-held = λ j l. absurd (omega arith);
             };
-        seen = simp e (state-path 1 (headOf (valueAt s p)) (take-none (x .events) at n) (events-none s _ (x .events) at n) (rows-none s _ _ (x .rows) o) (pairs-none s _ (x .pairs) q));
+        seen = simp e (state-path 1 (headOf (editionOf (valueAt s p)) (valueAt s p)) (take-none (x .events) at n) (events-none s _ (x .events) at n) (rows-none s _ _ (x .rows) o) (pairs-none s _ (x .pairs) q));
       }
 
   abbrev agent : ℕ
   agent = agentOf (valueAt s p)
 
   room : tagAt s p ≡ 2 → roomFor (eventsIn s x at) agent ≡ true
-  room e = event-room (x .head) (eventsIn s x at) (valueAt s p) (event-clean s p st (r .clean) e)
+  room e = event-passed (x .head) (eventsIn s x at) (valueAt s p) (event-clean s p st (r .clean) e) .room
 
   counted : Counted s x at
   counted = counted-of s p last x at b
@@ -184,11 +166,11 @@ module _ (s : List ℕ) (p last : ℕ) (x : Sheet) (at : List ℕ) (r : Ready s 
     where
       go : (c : Bool) → eqb agent 0 ≡ c → (x .events < slots) × (cond c (x .inits + 1) (x .inits) ≤ maxInits) × (x .events + 1 ≤ cond c (x .inits + 1) (x .inits) + maxOthers)
       go true d =
-          let k : x .inits < maxInits = rw (← b .inits) at (room-init (eventsIn s x at) agent (room e) d) in
+          let k : x .inits < maxInits = rw (← b .inits) at (room-init (inits (eventsIn s x at)) (others (eventsIn s x at)) agent (room e) d) in
           let o = b .few-others in
           (omega arith, omega arith, omega arith)
       go false d =
-          let k : x .events - x .inits < maxOthers = rw (others-count s x at counted) at (room-other (eventsIn s x at) agent (room e) d) in
+          let k : x .events - x .inits < maxOthers = rw (others-count s x at counted) at (room-other (inits (eventsIn s x at)) (others (eventsIn s x at)) agent (room e) d) in
           let i = b .few-inits in
           (omega arith, i, omega arith)
 
@@ -201,18 +183,6 @@ module _ (s : List ℕ) (p last : ℕ) (x : Sheet) (at : List ℕ) (r : Ready s 
   split : (i n : ℕ) → i < n + 1 → (i ≡ n) ⊎ (i < n)
   split i n j = eq-or-lt-of-le (omega arith)
 
-  -- as long, at a place that is said another way
-  long-at : {k q m : ℕ} → q ≡ m → k ≤ length (valueAt s q) → k ≤ length (valueAt s m)
-  long-at {k} e h = subst (λ (q : ℕ). k ≤ length (valueAt s q)) e h
-
-  event-long : tagAt s p ≡ 2 → 5 ≤ length (valueAt s p)
-  unfolding eventBytes
-  event-long e = let l = event-length (x .head) (eventsIn s x at) (valueAt s p) (event-clean s p st (r .clean) e) in omega arith
-
-  row-long : tagAt s p ≡ 3 → 3 ≤ length (valueAt s p)
-  unfolding rowBytes
-  row-long e = let l = row-length s p st (r .clean) e in let v = value-length s p st (r .clean) in omega arith
-
   pub event-taken : tagAt s p ≡ 2 → Advanced s p last x at (withEvent x agent next) (set at (x .events) p)
   unfolding after taken inits isInit rowsOn pairsOn spaced
   event-taken e =
@@ -222,14 +192,16 @@ module _ (s : List ℕ) (p last : ℕ) (x : Sheet) (at : List ℕ) (r : Ready s 
       let k = counts e in
       let l = event-here e in
       let here : p ≡ fieldPlace s (suc (x .events)) = place-same s p _ (suc (x .events)) (b .here (omega arith)) (omega arith) in
-      let more = events-more s (x .head .edition) at (x .events) p l in
+      let more : eventsOn s (x .head .edition) (x .events + 1) (set at (x .events) p) ≡ eventsIn s x at ++ (eventOf (x .head .edition) (valueAt s p) ∷ []) =
+      events-more s (x .head .edition) at (x .events) p l
+      ∙ ap (λ (d : Event). eventsIn s x at ++ (d ∷ [])) (sym (value-event s p st (r .clean) e)) in
       record {
         between =
             record {
               size = length-set at (x .events) p ∙ b .size;
               few-inits = k .1;
               few-others = k .2;
-              inits = ap (λ (j : ℕ). cond (eqb agent 0) (j + 1) j) (b .inits) ∙ sym (number-snoc isInit (eventsIn s x at) (eventAt s (x .head .edition) p)) ∙ sym (ap (number isInit) more);
+              inits = ap (λ (j : ℕ). cond (eqb agent 0) (j + 1) j) (b .inits) ∙ sym (number-snoc isInit (eventsIn s x at) (eventOf (x .head .edition) (valueAt s p))) ∙ sym (ap (number isInit) more);
               unused = unused-more at (x .events) slots p (k .0) (b .unused);
               no-events = λ t. absurd (omega arith);
               no-rows = λ _. refl;
@@ -244,11 +216,6 @@ module _ (s : List ℕ) (p last : ℕ) (x : Sheet) (at : List ℕ) (r : Ready s 
                   (split i (x .events) j);
               rows-at = λ _. place-next s p (suc (x .events)) _ here (omega arith);
               pairs-at = λ _. place-next s p (suc (x .events)) _ here (omega arith);
-              held = λ i j. ⊎-elim
-                  (λ q. long-at (sym (ap (λ (m : ℕ). getD (set at (x .events) p) m 0) q ∙ getD-set-same at (x .events) p 0 l)) (event-long e))
-                  (λ q. long-at (sym (getD-set-other at (x .events) i p 0 (λ t. omega arith))) (b .held i q))
-                  (split i (x .events) j);
-              rows-held = λ j l. absurd (omega arith);
             };
         seen = simp e (state-path 2 (x .head) (places-more at (x .events) p l) more (rows-none s _ _ (x .rows) o) (pairs-none s _ (x .pairs) q));
       }
@@ -290,13 +257,8 @@ module _ (s : List ℕ) (p last : ℕ) (x : Sheet) (at : List ℕ) (r : Ready s 
               places = b .places;
               rows-at = λ _. b .rows-at (omega arith);
               pairs-at = λ _. place-next s p (suc (x .events + x .rows + x .pairs)) _ here (omega arith);
-              held = b .held;
-              rows-held = λ i j. ⊎-elim
-                  (λ q. long-at (sym (ap (λ (m : ℕ). x .«rows_at» + m * rowGap (x .head .edition)) q ∙ o)) (row-long e))
-                  (λ q. b .rows-held i q)
-                  (split i (x .rows) j);
             };
-        seen = simp e (state-path 3 (x .head) refl refl (spaced-more (rowAt s) (rowGap (x .head .edition)) (x .«rows_at») (x .rows) p o) (pairs-none s _ (x .pairs) q));
+        seen = simp e (state-path 3 (x .head) refl refl (spaced-more (rowAt s (x .head .edition)) (rowGap (x .head .edition)) (x .«rows_at») (x .rows) p o ∙ ap (λ (q : Row). rowsOn s (x .head .edition) (x .«rows_at») (x .rows) ++ (q ∷ [])) (sym (value-row s p st (r .clean) e))) (pairs-none s _ (x .pairs) q));
       }
 
   pub pair-taken : tagAt s p ≡ 4 → Advanced s p last x at (withPair x) at
@@ -324,15 +286,13 @@ module _ (s : List ℕ) (p last : ℕ) (x : Sheet) (at : List ℕ) (r : Ready s 
               places = b .places;
               rows-at = λ _. b .rows-at (omega arith);
               pairs-at = λ _. b .pairs-at (omega arith);
-              held = b .held;
-              rows-held = b .rows-held;
             };
-        seen = simp e (state-path 4 (x .head) refl refl refl (spaced-more (pairAt s) pairGap (x .«pairs_at») (x .pairs) p o));
+        seen = simp e (state-path 4 (x .head) refl refl refl (spaced-more (pairAt s) pairGap (x .«pairs_at») (x .pairs) p o ∙ ap (λ (q : Pair). pairsOn s (x .«pairs_at») (x .pairs) ++ (q ∷ [])) (sym (value-pair s p st (r .clean) e))));
       }
 
 -- ---- the loop over the fields
 
-pub between-start : (s : List ℕ) → Between s 0 0 blankSheet blankPlaces
+pub between-start : (s : List ℕ) → Between s 0 0 blankCounts blankPlaces
 unfolding inits eventsOn number
 between-start s =
     record {
@@ -351,12 +311,10 @@ between-start s =
       places = λ i l. absurd (omega arith);
       rows-at = λ t. absurd (omega arith);
       pairs-at = λ t. absurd (omega arith);
-      held = λ i l. absurd (omega arith);
-      rows-held = λ j l. absurd (omega arith);
     }
 
 -- the loop's invariant: the whole answer is the answer from here, with fuel enough
-pub record Turn (s : List ℕ) (p last : ℕ) (x : Sheet) (at : List ℕ) : Type 0 where
+pub record Turn (s : List ℕ) (p last : ℕ) (x : Counts) (at : List ℕ) : Type 0 where
   pub fuel : ℕ
   pub goes : parse s ≡ fieldsFrom s (suc fuel) p (view s last x at)
   pub enough : length s ≤ fuel + p
@@ -364,12 +322,12 @@ pub record Turn (s : List ℕ) (p last : ℕ) (x : Sheet) (at : List ℕ) : Type
   pub short : length s ≤ maxBytes
   pub between : Between s p last x at
 
-pub turn-start : (s : List ℕ) → length s ≤ maxBytes → Turn s 0 0 blankSheet blankPlaces
+pub turn-start : (s : List ℕ) → length s ≤ maxBytes → Turn s 0 0 blankCounts blankPlaces
 unfolding eventsOn rowsOn pairsOn spaced
 turn-start s h =
     record { fuel = length s; goes = at-start s h; enough = omega arith; within-s = omega arith; short = h; between = between-start s }
 
-module _ (s : List ℕ) (p last : ℕ) (x : Sheet) (at : List ℕ) (t : Turn s p last x at) where
+module _ (s : List ℕ) (p last : ℕ) (x : Counts) (at : List ℕ) (t : Turn s p last x at) where
   pub turn-through : length s ≤ p → Through s last x at
   turn-through h =
       let w = t .within-s in
@@ -386,7 +344,7 @@ module _ (s : List ℕ) (p last : ℕ) (x : Sheet) (at : List ℕ) (t : Turn s p
   pub turn-ready : faultAt s p (view s last x at) ≡ 0 → Ready s p last x at
   turn-ready e = record { between = t .between; short = t .short; clean = e }
 
-  pub turn-next : (y : Sheet) (at′ : List ℕ) → p < length s → faultAt s p (view s last x at) ≡ 0 → Advanced s p last x at y at′ → Turn s (nextAt s p) (tagAt s p) y at′
+  pub turn-next : (y : Counts) (at′ : List ℕ) → p < length s → faultAt s p (view s last x at) ≡ 0 → Advanced s p last x at y at′ → Turn s (nextAt s p) (tagAt s p) y at′
   turn-next y at′ h e a =
       let k = t .enough in
       record {

@@ -1,16 +1,4 @@
-pub mod HandedLaws
-pub mod HeldLaws
-pub mod ParseLaws
+pub mod TakenLaws
 pub mod BetweenLaws
 pub mod CompleteLaws
-pub mod ContentLaws
-pub mod LackLaws
-pub mod LadderLaws
-pub mod PromiseLaws
-pub mod DescribedLaws
-pub mod FormedLaws
-pub mod FramedLaws
-pub mod WellSheetLaws
 pub mod AgreementLaws
-pub mod RefusalLaws
-pub mod Examples

@@ -1,50 +1,40 @@
 -- What the reader keeps between two fields, and what it means: the contracts of its own functions, no part of what it promises.
---     view                          the state of specs/Parse.antt that the last tag, the counts and the places stand for
---     EventsHeld, RowsHeld          the values of the events and rows so far are as long as what is read of them
+--     view                          the state of crates/parse/specs/Parse.antt that the last tag, the counts and the places stand for
 --     Counted, Between              what holds of the counts and places at place p
 --     Ready, Advanced               a field without a fault is at hand; it has been taken
 --     Scanned                       what is known when the fields are through
 -- Assumes nothing.
 use mathlib.Core.Path.{_≡_}
 use mathlib.Core.Bool.{cond}
-use mathlib.Core.List.{List, [], _∷_}
+use mathlib.Core.List.{List}
 use Prim.Native.Nat.{ℕ, suc, _+_, _-_, _*_, _<_, _≤_}
 use lib.Dec.{eqb}
-use lib.ListN.{length, getD, take, drop, set, replicate}
+use lib.ListN.{length, getD, take, drop, replicate}
 use Rattle.format.specs.declared.Head.{Head}
 use Rattle.format.specs.Limits.{maxBytes, maxInits, maxOthers, slots}
 use Rattle.format.specs.Execution.{Execution, inits}
-use Rattle.format.specs.Field.{tagAt, nextAt, valueAt, fieldPlace}
+use Rattle.format.specs.Field.{tagAt, nextAt, fieldPlace}
 use Rattle.format.specs.Layout.{rowGap, pairGap}
-use Rattle.sheet.specs.declared.Sheet.{Sheet}
 use Rattle.sheet.specs.declared.Reading.{Reading}
 use Rattle.sheet.specs.declared.Reading.the-variants.{Refused, Whole}
 use Rattle.sheet.specs.declared.Scan.{Scan}
 use Rattle.sheet.specs.declared.Scan.the-variants.{Stopped, Ended}
 use Rattle.sheet.specs.declared.Outcome.{Outcome}
-use Rattle.sheet.specs.Parse.{Parsed, refused, whole, State, faultAt, after, finish, parse}
-use Rattle.sheet.specs.Handed.{eventsIn, execution, blankSheet, blankPlaces}
+use Rattle.parse.specs.Parse.{Parsed, refused, whole, State, faultAt, after, finish, parse}
+use Rattle.entries.specs.declared.Counts.{Counts}
+use Rattle.entries.specs.Entries.{eventsIn, execution}
+use Rattle.sheet.specs.Handed.{blankCounts, blankPlaces}
 
-abbrev pub view : List ℕ → ℕ → Sheet → List ℕ → State
+abbrev pub view : List ℕ → ℕ → Counts → List ℕ → State
 view s last x at = record { tag = last; places = take (x .events) at; got = execution s x at }
 
--- agent, kind, mode, start, width
-abbrev pub EventsHeld : List ℕ → Sheet → List ℕ → Type 0
-EventsHeld s x at = (e : ℕ) → e < x .events → 5 ≤ length (valueAt s (getD at e 0))
-
--- reader, address, writer
-abbrev pub RowsHeld : List ℕ → Sheet → Type 0
-RowsHeld s x = (j : ℕ) → j < x .rows → 3 ≤ length (valueAt s (x .«rows_at» + j * rowGap (x .head .edition)))
-
 -- the places hold the events so far, and their inits are counted
-pub record Counted (s : List ℕ) (x : Sheet) (at : List ℕ) : Type 0 where
+pub record Counted (s : List ℕ) (x : Counts) (at : List ℕ) : Type 0 where
   pub room : x .events ≤ length at
   pub inits : x .inits ≡ inits (eventsIn s x at)
-  pub held : EventsHeld s x at
-  pub rows-held : RowsHeld s x
 
 -- at place p, behind a field with the tag `last` (0 for none)
-pub record Between (s : List ℕ) (p last : ℕ) (x : Sheet) (at : List ℕ) : Type 0 where
+pub record Between (s : List ℕ) (p last : ℕ) (x : Counts) (at : List ℕ) : Type 0 where
   pub size : length at ≡ slots
   pub few-inits : x .inits ≤ maxInits
   pub few-others : x .events ≤ x .inits + maxOthers
@@ -60,25 +50,23 @@ pub record Between (s : List ℕ) (p last : ℕ) (x : Sheet) (at : List ℕ) : T
   pub places : (e : ℕ) → e < x .events → getD at e 0 ≡ fieldPlace s (suc e)
   pub rows-at : 0 < last → x .«rows_at» ≡ fieldPlace s (suc (x .events))
   pub pairs-at : 0 < last → x .«pairs_at» ≡ fieldPlace s (suc (x .events + x .rows))
-  pub held : EventsHeld s x at
-  pub rows-held : RowsHeld s x
 
-pub record Ready (s : List ℕ) (p last : ℕ) (x : Sheet) (at : List ℕ) : Type 0 where
+pub record Ready (s : List ℕ) (p last : ℕ) (x : Counts) (at : List ℕ) : Type 0 where
   pub between : Between s p last x at
   pub short : length s ≤ maxBytes
   pub clean : faultAt s p (view s last x at) ≡ 0
 
-pub record Advanced (s : List ℕ) (p last : ℕ) (x : Sheet) (at : List ℕ) (y : Sheet) (at′ : List ℕ) : Type 0 where
+pub record Advanced (s : List ℕ) (p last : ℕ) (x : Counts) (at : List ℕ) (y : Counts) (at′ : List ℕ) : Type 0 where
   pub between : Between s (nextAt s p) (tagAt s p) y at′
   pub seen : view s (tagAt s p) y at′ ≡ after s p (view s last x at)
 
 -- ---- the counts behind a field that ends at `next`
 
-abbrev pub withHead : Head → ℕ → Sheet
+abbrev pub withHead : Head → ℕ → Counts
 withHead h next =
     record { head = h; inits = 0; events = 0; «rows_at» = next; rows = 0; «pairs_at» = next; pairs = 0 }
 
-abbrev pub withEvent : Sheet → ℕ → ℕ → Sheet
+abbrev pub withEvent : Counts → ℕ → ℕ → Counts
 withEvent x agent next =
     record {
       head = x .head;
@@ -90,11 +78,11 @@ withEvent x agent next =
       pairs = 0;
     }
 
-abbrev pub withRow : Sheet → ℕ → Sheet
+abbrev pub withRow : Counts → ℕ → Counts
 withRow x next =
     record { head = x .head; inits = x .inits; events = x .events; «rows_at» = x .«rows_at»; rows = x .rows + 1; «pairs_at» = next; pairs = 0 }
 
-abbrev pub withPair : Sheet → Sheet
+abbrev pub withPair : Counts → Counts
 withPair x =
     record {
       head = x .head;
@@ -108,7 +96,7 @@ withPair x =
 
 -- ---- when the fields are through
 
-pub record Through (s : List ℕ) (last : ℕ) (x : Sheet) (at : List ℕ) : Type 0 where
+pub record Through (s : List ℕ) (last : ℕ) (x : Counts) (at : List ℕ) : Type 0 where
   pub goes : parse s ≡ finish s (view s last x at)
   pub between : Between s (length s) last x at
   pub short : length s ≤ maxBytes
@@ -123,4 +111,4 @@ parsedOf (Refused n p) x = refused n p
 parsedOf Whole x = whole x
 
 abbrev pub refusal : ℕ → ℕ → Outcome
-refusal n p = record { reading = Refused n p; sheet = blankSheet; at = blankPlaces }
+refusal n p = record { reading = Refused n p; counts = blankCounts; at = blankPlaces }

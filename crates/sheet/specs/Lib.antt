@@ -1,10 +1,2 @@
-pub mod Content
-pub mod Parse
 pub mod Handed
-pub mod Promise
-pub mod Described
-pub mod Framed
-pub mod WellSheet
-pub mod Refusal
 pub mod Between
-pub mod Examples

@@ -1,12 +1,12 @@
 // The first fault of a field: its refusal's number, 0 for none.
-use crate::Sheet;
-use crate::content;
+use entries::Counts;
 use format::MAX_PAIRS;
 use format::field;
-use format::layout;
+use format::field::FIELD_BYTES;
+use layout::PAIR_BYTES;
 ghost use mathlib.Core.Path.{_≡_};
-ghost use Rattle.sheet.specs.Parse.{placeOf, allowed, headFault, eventFault, rowFault, pairFault, valueFault, faultAt};
-ghost use Rattle.sheet.specs.Handed.{eventsIn, rowsIn, pairsIn, execution};
+ghost use Rattle.parse.specs.Parse.{placeOf, allowed, headFault, eventFault, rowFault, pairFault, valueFault, faultAt};
+ghost use Rattle.entries.specs.Entries.{eventsIn, rowsIn, pairsIn, execution};
 ghost use Rattle.sheet.specs.Between.{view, Counted};
 
 // The place of a refusal of a field, from its number and the place of the tag: made here and nowhere else.
@@ -31,18 +31,19 @@ fn allowed(last: u8, tag: u8) -> bool
 fn head_fault(v: &[u8]) -> u8
     ensures { λ r. ⌜ r ≡ headFault (now (v .entry)) ⌝ }
 {
-    let long = v.len() == 3;
+    let edition = field::byte(v, 0);
+    let long = v.len() == layout::head_bytes(edition) as usize;
     if !long {
         return 4;
     }
-    let fits = content::head_fits(layout::head_of(v));
+    let fits = content::head_fits(layout::head_of(edition, v));
     if !fits {
         return 5;
     }
     0
 }
 
-fn event_fault(s: &[u8], x: Sheet, at: &[u16], v: &[u8]) -> u8
+fn event_fault(s: &[u8], x: Counts, at: &[u16], v: &[u8]) -> u8
     requires { ⌜ Counted (now s) x (now at) ⌝ }
     ensures { λ r. ⌜ r ≡ eventFault (x .head) (eventsIn (now (s .entry)) x (now (at .entry))) (now (v .entry)) ⌝ }
 {
@@ -52,46 +53,44 @@ fn event_fault(s: &[u8], x: Sheet, at: &[u16], v: &[u8]) -> u8
         return 4;
     }
     let agent = field::byte(v, 0);
-    let a = layout::shape_of(v);
-    let fits = content::event_fits(s, x, at, agent, a);
+    let a = layout::shape_of(x.head.edition, v);
+    let fits = fits::event_fits(s, x, at, agent, a);
     if !fits {
         return 6;
     }
-    let exact = v.len() == least + content::data_bytes(a) as usize;
+    let exact = v.len() == least + layout::data_bytes(a) as usize;
     if !exact {
         return 4;
     }
-    let room = content::room_for(s, x, at, agent);
+    let room = content::room_for(x.inits, x.events - x.inits, agent);
     if !room {
         return 9;
     }
     0
 }
 
-fn row_fault(s: &[u8], x: Sheet, at: &[u16], v: &[u8]) -> u8
-    requires { ⌜ Counted (now s) x (now at) ⌝ }
+fn row_fault(s: &[u8], x: Counts, at: &[u16], v: &[u8]) -> u8
     ensures { λ r. ⌜ r ≡ rowFault (x .head) (eventsIn (now (s .entry)) x (now (at .entry))) (rowsIn (now (s .entry)) x) (now (v .entry)) ⌝ }
 {
     let long = v.len() == layout::row_bytes(x.head.edition) as usize;
     if !long {
         return 4;
     }
-    let fits = content::row_fits(s, x, at, layout::row_of(v));
+    let fits = fits::row_fits(s, x, at, layout::row_of(x.head.edition, v));
     if !fits {
         return 7;
     }
     0
 }
 
-fn pair_fault(s: &[u8], x: Sheet, at: &[u16], v: &[u8]) -> u8
-    requires { ⌜ Counted (now s) x (now at) ⌝ }
+fn pair_fault(s: &[u8], x: Counts, at: &[u16], v: &[u8]) -> u8
     ensures { λ r. ⌜ r ≡ pairFault (eventsIn (now (s .entry)) x (now (at .entry))) (pairsIn (now (s .entry)) x) (now (v .entry)) ⌝ }
 {
-    let long = v.len() == 2;
+    let long = v.len() == PAIR_BYTES as usize;
     if !long {
         return 4;
     }
-    let fits = content::pair_fits(s, x, at, layout::pair_of(v));
+    let fits = fits::pair_fits(s, x, at, layout::pair_of(v));
     if !fits {
         return 8;
     }
@@ -102,7 +101,7 @@ fn pair_fault(s: &[u8], x: Sheet, at: &[u16], v: &[u8]) -> u8
     0
 }
 
-fn value_fault(s: &[u8], x: Sheet, at: &[u16], tag: u8, v: &[u8]) -> u8
+fn value_fault(s: &[u8], x: Counts, at: &[u16], tag: u8, v: &[u8]) -> u8
     requires { ⌜ Counted (now s) x (now at) ⌝ }
     ensures { λ r. ⌜ r ≡ valueFault (execution (now (s .entry)) x (now (at .entry))) tag (now (v .entry)) ⌝ }
 {
@@ -116,12 +115,12 @@ fn value_fault(s: &[u8], x: Sheet, at: &[u16], tag: u8, v: &[u8]) -> u8
 }
 
 // The number of the refusal of the field at p; 0 where there is none.
-pub(crate) fn fault_at(s: &[u8], p: u16, last: u8, x: Sheet, at: &[u16]) -> u8
+pub(crate) fn fault_at(s: &[u8], p: u16, last: u8, x: Counts, at: &[u16]) -> u8
     requires { ⌜ Counted (now s) x (now at) ⌝ }
     ensures { λ r. ⌜ r ≡ faultAt (now (s .entry)) p (view (now (s .entry)) last x (now (at .entry))) ⌝ }
 {
     let place = p as usize;
-    let stub = s.len() < place + 3;
+    let stub = s.len() < place + FIELD_BYTES;
     if stub {
         return 2;
     }
@@ -130,7 +129,7 @@ pub(crate) fn fault_at(s: &[u8], p: u16, last: u8, x: Sheet, at: &[u16]) -> u8
     if !here {
         return 3;
     }
-    let next = place + 3 + field::length_at(s, p as u32) as usize;
+    let next = place + FIELD_BYTES + field::length_at(s, p as u32) as usize;
     let over = s.len() < next;
     if over {
         return 2;

@@ -184,10 +184,20 @@ pub struct Entry {
     /// What document 01 says, a line each.
     pub words: String,
     pub line: String,
+    /// What comes with other buffers: bytes of scratch, bytes of the order buffer, the line.
+    pub lent: Vec<(usize, usize, String)>,
     pub sheet: Vec<u8>,
 }
 
-/// The entries of a litmus source: `entry NAME`, lines `| words`, `line LINE`, the sheet's text.
+/// `ROOM PLACES LINE` of a line `lent`.
+fn lent(words: &str) -> Option<(usize, usize, String)> {
+    let (room, rest) = words.split_once(' ')?;
+    let (places, line) = rest.split_once(' ')?;
+    Some((room.parse().ok()?, places.parse().ok()?, line.to_string()))
+}
+
+/// The entries of a litmus source: `entry NAME`, lines `| words`, `line LINE`, lines `lent ROOM PLACES LINE`, the
+/// sheet's text.
 pub fn litmus(source: &str) -> Result<Vec<Entry>, String> {
     let mut parts: Vec<(String, String)> = vec![];
     for line in source.lines() {
@@ -199,13 +209,16 @@ pub fn litmus(source: &str) -> Result<Vec<Entry>, String> {
     }
     let mut entries: Vec<Entry> = vec![];
     for (name, body) in parts {
-        let mut e = Entry { name, words: String::new(), line: String::new(), sheet: vec![] };
+        let mut e = Entry { name, words: String::new(), line: String::new(), lent: vec![], sheet: vec![] };
         let mut fields = String::new();
         for line in body.lines() {
             if let Some(words) = line.strip_prefix("| ") {
                 e.words += &format!("{words}\n");
             } else if let Some(expected) = line.strip_prefix("line ") {
                 e.line = expected.to_string();
+            } else if let Some(words) = line.strip_prefix("lent ") {
+                let read = lent(words).ok_or(format!("entry {}: not ROOM PLACES LINE: {line}", e.name))?;
+                e.lent.push(read);
             } else {
                 fields += &format!("{line}\n");
             }

@@ -191,9 +191,12 @@ fn the_litmus_table() {
     assert!(entries.len() >= 56);
     for e in &entries {
         assert_eq!(judge(&e.sheet, MAX_SCRATCH, MAX_EVENTS).line(), e.line, "{}", e.name);
+        for (room, places, line) in &e.lent {
+            assert_eq!(judge(&e.sheet, *room, *places).line(), *line, "{}, lent {room} {places}", e.name);
+        }
         let file = |end: &str| std::fs::read(format!("{dir}/{}.{end}", e.name)).unwrap();
-        assert_eq!(file("sheet"), e.sheet, "{}: run harness/litmus.sh", e.name);
-        assert_eq!(file("line"), format!("{}\n", e.line).into_bytes(), "{}: run harness/litmus.sh", e.name);
+        assert_eq!(file("sheet"), e.sheet, "{}: run tests/make", e.name);
+        assert_eq!(file("line"), format!("{}\n", e.line).into_bytes(), "{}: run tests/make", e.name);
     }
     let first = std::fs::read(format!("{dir}/../first.sheet")).unwrap();
     assert_eq!(first, EXAMPLE);

@@ -1,6 +1,6 @@
 -- `bars::note` meets its contract, by what the access is. Assumes nothing.
 use mathlib.Core.Path.{_≡_, sym, ap, _∙_}
-use mathlib.Core.Bool.{Bool, _&&_}
+use mathlib.Core.Bool.{_&&_}
 use mathlib.Core.List.{List}
 use Prim.Native.Nat.{ℕ, _/_, _%_}
 use native.Mathlib.Nat.{mod-eq-of-lt}
@@ -8,7 +8,6 @@ use native.Mathlib.Omega.{arith}
 use Rattle.sets.specs.Mask.{slots}
 use borrow.Author.Tests.{not-true, not-false}
 use denote.Ref.{now}
-use lib.Dec.{eqb}
 use Rattle.basis.specs.Test.{_and_}
 use Rattle.basis.proofs.BoolLaws.{amp-and}
 use Rattle.format.specs.declared.Shape.{Shape}

@@ -9,15 +9,16 @@ use mathlib.Core.Option.{none}
 use Prim.Native.Nat.{ℕ}
 use lib.ListN.{length}
 use Rattle.format.specs.Execution.{Execution, inits}
-use Rattle.sheet.specs.declared.Sheet.{Sheet}
-use Rattle.sheet.specs.Parse.{whole}
-use Rattle.sheet.specs.Handed.{execution, Laid}
+use Rattle.entries.specs.declared.Counts.{Counts}
+use Rattle.parse.specs.Parse.{whole}
+use Rattle.entries.specs.Entries.{execution}
+use Rattle.sheet.specs.Handed.{Laid}
 use Rattle.model.specs.Rules.{fault}
 use Rattle.model.specs.Judged.{needed, admitted}
 use Rattle.front.specs.Tabled.{hbOf, Held}
 
 -- the reader found the sheet whole, and neither 01's "12 scratch too short" nor "13 order buffer shorter than the number of events" applies
-pub record Admits (s : List ℕ) (x : Sheet) (at : List ℕ) (need : ℕ) (scratch order : List ℕ) : Type 0 where
+pub record Admits (s : List ℕ) (x : Counts) (at : List ℕ) (need : ℕ) (scratch order : List ℕ) : Type 0 where
   pub laid : Laid s x at
   pub describes : admitted s (length scratch) (length order) ≡ whole (execution s x at)
   pub needs : need ≡ needed (execution s x at)

@@ -1,76 +1,45 @@
--- `lay::event` meets its contract: a part of five bytes, or the value. Assumes nothing.
-use mathlib.Core.Path.{_≡_, sym, ap, _∙_}
-use mathlib.Core.List.{List}
-use native.Mathlib.Nat.{add-sub-cancel-left}
-use Prim.Native.Nat.{ℕ, _+_, _%_, _≤_}
-use denote.Ref.{now}
-use lib.ListN.{length, take, drop}
-use Rattle.format.specs.Field.{valueAt}
+-- `lay::event` meets its contract, write by write. Assumes nothing.
+use mathlib.Core.Path.{_≡_}
+use native.Mathlib.Nat.{mod-eq-of-lt}
+use native.Mathlib.Omega.{arith}
+use Prim.Native.Nat.{_*_, _%_}
 use Rattle.sets.specs.Mask.{slots}
-use Rattle.lay.specs.Lay.{valuePut}
-use Rattle.lay.proofs.LayLaws.{front-same, front-fits, event-front}
+use Rattle.tables.specs.Tables.{accesses}
 use borrow.Author.Needs.{needs}
 use Rattle.lay.proofs.event.Statement.{statement}
 use Rattle.lay.proofs.event.Tie as tie
 
-has-requires : tie.Need-has-requires
-has-requires c κs = search needs
+mul-k : tie.Need-mul-k
+mul-k c = search needs
 
-add-start : tie.Need-add-start
-add-start c = search needs
+agent-at-requires : tie.Need-agent-at-requires
+agent-at-requires c κs = search needs
 
-add-put-event : tie.Need-add-put-event
-add-put-event c = search needs
+shape-at-requires : tie.Need-shape-at-requires
+shape-at-requires c κs = search needs
 
-sub-put-event : tie.Need-sub-put-event
-sub-put-event c = search needs
+put-agent-requires : tie.Need-put-agent-requires
+put-agent-requires c κs = search needs
 
-part-put-event-start : tie.Need-part-put-event-start
-part-put-event-start c = search needs
-
-part-put-event-end : tie.Need-part-put-event-end
-part-put-event-end c = let a = c .before .before .before .before .args in
-    let z : a .p + 3 + 5 ≤ length (now (a .s)) = front-fits (now (a .s)) (a .p) 5 (sym (c .before .has .ensures) ∙ c .if1 .taken) in
-    search needs
-
-put-event-requires : tie.Need-put-event-requires
-put-event-requires c κs = search needs
-
-value-at-requires : tie.Need-value-at-requires
-value-at-requires c κs = search needs
-
-put-event-requires-2 : tie.Need-put-event-requires-2
-put-event-requires-2 c κs = search needs
+put-access-requires : tie.Need-put-access-requires
+put-access-requires c κs = search needs
 
 same-length : tie.Need-same-length
 same-length c = search needs
 
 returns : tie.Need-returns
-returns c = let a = c .before .before .before .before .before .before .before .before .before .args in
-    let s = now (a .s) in
-    let z : take 5 (drop (a .p + 3) s) ≡ take 5 (valueAt s (a .p)) = front-same s (a .p) 5 (sym (c .before .before .before .before .before .before .has .ensures) ∙ c .before .before .before .before .before .if1 .taken) in
-    simp (add-sub-cancel-left) at (c .before .before .put-event .ensures) ∙ ap (λ (v : List ℕ). valuePut v (a .e % slots) (now (a .t))) z ∙ event-front (valueAt s (a .p)) (a .e % slots) (now (a .t))
-
-same-length-2 : tie.Need-same-length-2
-same-length-2 c = search needs
-
-returns-2 : tie.Need-returns-2
-returns-2 c = simp (c .before .before .put-event2 .ensures, c .before .before .before .before .value-at .ensures)
+returns c = let i = c .before .before .before .before .before .before .before .before .before .before .before .before .args .e % slots in
+    let j : (2 * i) % accesses ≡ 2 * i = mod-eq-of-lt (omega arith) in
+    simp (c .before .before .put-access .ensures, c .before .before .before .before .before .before .put-agent .ensures, c .before .before .before .before .before .before .before .before .shape-at .ensures, c .before .before .before .before .before .before .before .before .before .agent-at .ensures, j)
 
 pub event-spec : {M : Type 1} → statement M
 event-spec =
     tie.close
     (tie.spec
-    has-requires
-    add-start
-    add-put-event
-    sub-put-event
-    part-put-event-start
-    part-put-event-end
-    put-event-requires
-    value-at-requires
-    put-event-requires-2
+    mul-k
+    agent-at-requires
+    shape-at-requires
+    put-agent-requires
+    put-access-requires
     same-length
-    returns
-    same-length-2
-    returns-2)
+    returns)

@@ -1,6 +1,6 @@
 -- `sheet::fault::allowed` meets its contract, tag by tag. Assumes nothing.
 use borrow.Author.Tests.{ne-eqb}
-use Rattle.sheet.specs.Parse.{allowed}
+use Rattle.parse.specs.Parse.{allowed}
 use borrow.Author.Needs.{needs}
 use Rattle.sheet.proofs.fault.allowed.Statement.{statement}
 use Rattle.sheet.proofs.fault.allowed.Tie as tie

@@ -1,6 +1,8 @@
 -- `sheet::fault::event_fault` meets its contract, test by test. Assumes nothing.
+use denote.Ref.{now}
 use Rattle.basis.specs.Test.{non}
-use Rattle.sheet.specs.Parse.{eventFault}
+use Rattle.parse.specs.Parse.{eventFault}
+use Rattle.sheet.proofs.BetweenLaws.{others-count, inits-fit}
 use borrow.Author.Needs.{needs}
 use Rattle.sheet.proofs.fault.event_fault.Statement.{statement}
 use Rattle.sheet.proofs.fault.event_fault.Tie as tie
@@ -22,7 +24,7 @@ shape-of-requires : tie.Need-shape-of-requires
 shape-of-requires c κs = search needs
 
 event-fits-requires : tie.Need-event-fits-requires
-event-fits-requires c κs = c .before .before .before .before .before .before .before .pre
+event-fits-requires c κs = search needs
 
 returns-2 : tie.Need-returns-2
 unfolding eventFault non
@@ -41,16 +43,19 @@ returns-3 : tie.Need-returns-3
 unfolding eventFault non
 returns-3 c = simp (simp (c .before .before .before .before .before .before .before .event-bytes .ensures) at (c .before .before .before .before .before .before .if1 .left), simp (c .before .before .before .event-fits .ensures, c .before .before .before .before .before .byte .ensures, c .before .before .before .before .shape-of .ensures) at (c .before .before .if2 .left), simp (c .before .before .before .before .before .before .before .event-bytes .ensures, c .before .data-bytes .ensures, c .before .before .before .before .shape-of .ensures) at (c .if3 .taken))
 
+sub-room-for : tie.Need-sub-room-for
+sub-room-for c = inits-fit (now (c .before .before .before .before .before .before .before .before .before .before .before .before .args .s)) (c .before .before .before .before .before .before .before .before .before .before .before .before .args .x) (now (c .before .before .before .before .before .before .before .before .before .before .before .before .args .at)) (c .before .before .before .before .before .before .before .before .before .before .before .before .pre)
+
 room-for-requires : tie.Need-room-for-requires
-room-for-requires c κs = c .before .before .before .before .before .before .before .before .before .before .before .pre
+room-for-requires c κs = search needs
 
 returns-4 : tie.Need-returns-4
 unfolding eventFault non
-returns-4 c = simp (simp (c .before .before .before .before .before .before .before .before .before .event-bytes .ensures) at (c .before .before .before .before .before .before .before .before .if1 .left), simp (c .before .before .before .before .before .event-fits .ensures, c .before .before .before .before .before .before .before .byte .ensures, c .before .before .before .before .before .before .shape-of .ensures) at (c .before .before .before .before .if2 .left), simp (c .before .before .before .before .before .before .before .before .before .event-bytes .ensures, c .before .before .before .data-bytes .ensures, c .before .before .before .before .before .before .shape-of .ensures) at (c .before .before .if3 .left), simp (c .before .room-for .ensures, c .before .before .before .before .before .before .before .byte .ensures) at (c .if4 .taken))
+returns-4 c = simp (simp (c .before .before .before .before .before .before .before .before .before .before .event-bytes .ensures) at (c .before .before .before .before .before .before .before .before .before .if1 .left), simp (c .before .before .before .before .before .before .event-fits .ensures, c .before .before .before .before .before .before .before .before .byte .ensures, c .before .before .before .before .before .before .before .shape-of .ensures) at (c .before .before .before .before .before .if2 .left), simp (c .before .before .before .before .before .before .before .before .before .before .event-bytes .ensures, c .before .before .before .before .data-bytes .ensures, c .before .before .before .before .before .before .before .shape-of .ensures) at (c .before .before .before .if3 .left), ← c .before .before .before .before .before .before .before .before .before .before .before .before .before .before .pre .inits, others-count (now (c .before .before .before .before .before .before .before .before .before .before .before .before .before .before .args .s)) (c .before .before .before .before .before .before .before .before .before .before .before .before .before .before .args .x) (now (c .before .before .before .before .before .before .before .before .before .before .before .before .before .before .args .at)) (c .before .before .before .before .before .before .before .before .before .before .before .before .before .before .pre), simp (c .before .room-for .ensures, c .before .before .before .before .before .before .before .before .byte .ensures) at (c .if4 .taken))
 
 returns-5 : tie.Need-returns-5
 unfolding eventFault non
-returns-5 c = simp (simp (c .before .before .before .before .before .before .before .before .before .event-bytes .ensures) at (c .before .before .before .before .before .before .before .before .if1 .left), simp (c .before .before .before .before .before .event-fits .ensures, c .before .before .before .before .before .before .before .byte .ensures, c .before .before .before .before .before .before .shape-of .ensures) at (c .before .before .before .before .if2 .left), simp (c .before .before .before .before .before .before .before .before .before .event-bytes .ensures, c .before .before .before .data-bytes .ensures, c .before .before .before .before .before .before .shape-of .ensures) at (c .before .before .if3 .left), simp (c .before .room-for .ensures, c .before .before .before .before .before .before .before .byte .ensures) at (c .if4 .left))
+returns-5 c = simp (simp (c .before .before .before .before .before .before .before .before .before .before .event-bytes .ensures) at (c .before .before .before .before .before .before .before .before .before .if1 .left), simp (c .before .before .before .before .before .before .event-fits .ensures, c .before .before .before .before .before .before .before .before .byte .ensures, c .before .before .before .before .before .before .before .shape-of .ensures) at (c .before .before .before .before .before .if2 .left), simp (c .before .before .before .before .before .before .before .before .before .before .event-bytes .ensures, c .before .before .before .before .data-bytes .ensures, c .before .before .before .before .before .before .before .shape-of .ensures) at (c .before .before .before .if3 .left), ← c .before .before .before .before .before .before .before .before .before .before .before .before .before .before .pre .inits, others-count (now (c .before .before .before .before .before .before .before .before .before .before .before .before .before .before .args .s)) (c .before .before .before .before .before .before .before .before .before .before .before .before .before .before .args .x) (now (c .before .before .before .before .before .before .before .before .before .before .before .before .before .before .args .at)) (c .before .before .before .before .before .before .before .before .before .before .before .before .before .before .pre), simp (c .before .room-for .ensures, c .before .before .before .before .before .before .before .before .byte .ensures) at (c .if4 .left))
 
 pub event-fault-spec : {M : Type 1} → statement M
 event-fault-spec =
@@ -67,6 +72,7 @@ event-fault-spec =
     cast-exact
     add-exact
     returns-3
+    sub-room-for
     room-for-requires
     returns-4
     returns-5)

@@ -1,6 +1,6 @@
 -- `sheet::fault::fault_at` meets its contract, test by test. Assumes nothing.
 use Rattle.basis.specs.Test.{non}
-use Rattle.sheet.specs.Parse.{faultAt}
+use Rattle.parse.specs.Parse.{faultAt}
 use borrow.Author.Needs.{needs}
 use Rattle.sheet.proofs.fault.fault_at.Statement.{statement}
 use Rattle.sheet.proofs.fault.fault_at.Tie as tie

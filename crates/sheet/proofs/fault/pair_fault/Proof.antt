@@ -1,10 +1,13 @@
 -- `sheet::fault::pair_fault` meets its contract, test by test. Assumes nothing.
 use Rattle.basis.specs.Test.{non}
-use Rattle.sheet.specs.Parse.{pairFault}
-use Rattle.sheet.proofs.HandedLaws.{pairs-count}
+use Rattle.parse.specs.Parse.{pairFault}
+use Rattle.entries.proofs.EntriesLaws.{pairs-count}
 use borrow.Author.Needs.{needs}
 use Rattle.sheet.proofs.fault.pair_fault.Statement.{statement}
 use Rattle.sheet.proofs.fault.pair_fault.Tie as tie
+
+cast-long : tie.Need-cast-long
+cast-long c = search needs
 
 returns : tie.Need-returns
 unfolding pairFault non
@@ -30,4 +33,5 @@ returns-4 c = simp (c .before .before .before .before .before .if1 .left, simp (
 
 pub pair-fault-spec : {M : Type 1} → statement M
 pair-fault-spec =
-    tie.close (tie.spec returns pair-of-requires pair-fits-requires returns-2 returns-3 returns-4)
+    tie.close
+    (tie.spec cast-long returns pair-of-requires pair-fits-requires returns-2 returns-3 returns-4)

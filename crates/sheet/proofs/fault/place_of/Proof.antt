@@ -1,6 +1,6 @@
 -- `sheet::fault::place_of` meets its contract by computation. Assumes nothing.
 use mathlib.Core.Path.{refl}
-use Rattle.sheet.specs.Parse.{placeOf}
+use Rattle.parse.specs.Parse.{placeOf}
 use Rattle.sheet.proofs.fault.place_of.Statement.{statement}
 use Rattle.sheet.proofs.fault.place_of.Tie as tie
 

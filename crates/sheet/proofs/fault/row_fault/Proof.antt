@@ -1,6 +1,6 @@
 -- `sheet::fault::row_fault` meets its contract, test by test. Assumes nothing.
 use Rattle.basis.specs.Test.{non}
-use Rattle.sheet.specs.Parse.{rowFault}
+use Rattle.parse.specs.Parse.{rowFault}
 use borrow.Author.Needs.{needs}
 use Rattle.sheet.proofs.fault.row_fault.Statement.{statement}
 use Rattle.sheet.proofs.fault.row_fault.Tie as tie

@@ -1,6 +1,6 @@
 -- `sheet::fault::value_fault` meets its contract, tag by tag. Assumes nothing.
 use borrow.Author.Tests.{ne-eqb}
-use Rattle.sheet.specs.Parse.{valueFault}
+use Rattle.parse.specs.Parse.{valueFault}
 use borrow.Author.Needs.{needs}
 use Rattle.sheet.proofs.fault.value_fault.Statement.{statement}
 use Rattle.sheet.proofs.fault.value_fault.Tie as tie
@@ -12,10 +12,10 @@ event-fault-requires : tie.Need-event-fault-requires
 event-fault-requires c κs = c .before .before .before .before .pre
 
 row-fault-requires : tie.Need-row-fault-requires
-row-fault-requires c κs = c .before .before .before .before .pre
+row-fault-requires c κs = search needs
 
 pair-fault-requires : tie.Need-pair-fault-requires
-pair-fault-requires c κs = c .before .before .before .before .pre
+pair-fault-requires c κs = search needs
 
 returns : tie.Need-returns
 unfolding valueFault

@@ -1,9 +1,8 @@
 -- `sheet::reader::after` meets its contract: a field taken, by its tag; the tests of the field leave no other. Assumes nothing.
 use mathlib.Core.Path.{sym, _∙_}
 use denote.Ref.{now}
-use native.Mathlib.Omega.{arith}
 use Rattle.sheet.specs.Between.{view}
-use Rattle.sheet.proofs.ParseLaws.{known}
+use Rattle.parse.proofs.ParseLaws.{known}
 use Rattle.sheet.proofs.BetweenLaws.{ready-next, event-few, event-here, row-few, pair-few, head-taken, event-taken, row-taken, pair-taken}
 use borrow.Author.Needs.{needs}
 use Rattle.sheet.proofs.reader.after.Statement.{statement}
@@ -17,6 +16,9 @@ next-at-requires c κs = ready-next (now (c .before .before .before .args .s)) (
 
 value-at-requires : tie.Need-value-at-requires
 value-at-requires c κs = search needs
+
+byte-requires-2 : tie.Need-byte-requires-2
+byte-requires-2 c κs = search needs
 
 head-of-requires : tie.Need-head-of-requires
 head-of-requires c κs = search needs
@@ -33,8 +35,8 @@ mul-at c = search needs
 slice-write-at : tie.Need-slice-write-at
 slice-write-at c = search needs
 
-byte-requires-2 : tie.Need-byte-requires-2
-byte-requires-2 c κs = search needs
+byte-requires-3 : tie.Need-byte-requires-3
+byte-requires-3 c κs = search needs
 
 with-event-requires : tie.Need-with-event-requires
 with-event-requires c κs = event-few (now (c .before .before .before .before .before .before .before .before .args .s)) (c .before .before .before .before .before .before .before .before .args .p) (c .before .before .before .before .before .before .before .before .args .last) (c .before .before .before .before .before .before .before .before .args .x) (now (c .before .before .before .before .before .before .before .before .args .at)) (c .before .before .before .before .before .before .before .before .pre) (sym (c .before .before .before .before .before .byte .ensures) ∙ c .before .before .match .keys2)
@@ -46,13 +48,13 @@ with-pair-requires : tie.Need-with-pair-requires
 with-pair-requires c κs = pair-few (now (c .before .before .before .before .before .before .args .s)) (c .before .before .before .before .before .before .args .p) (c .before .before .before .before .before .before .args .last) (c .before .before .before .before .before .before .args .x) (now (c .before .before .before .before .before .before .args .at)) (c .before .before .before .before .before .before .pre)
 
 returns : tie.Need-returns
-returns c = simp (c .with-head .ensures, c .before .head-of .ensures, c .before .before .before .value-at .ensures, c .before .before .before .before .next-at .ensures) (head-taken (now (c .before .before .before .before .before .before .before .before .args .s)) (c .before .before .before .before .before .before .before .before .args .p) (c .before .before .before .before .before .before .before .before .args .last) (c .before .before .before .before .before .before .before .before .args .x) (now (c .before .before .before .before .before .before .before .before .args .at)) (c .before .before .before .before .before .before .before .before .pre) (sym (c .before .before .before .before .before .byte .ensures) ∙ c .before .before .match .keys1))
+returns c = simp (c .with-head .ensures, c .before .head-of .ensures, c .before .before .byte2 .ensures, c .before .before .before .before .value-at .ensures, c .before .before .before .before .before .next-at .ensures) (head-taken (now (c .before .before .before .before .before .before .before .before .before .args .s)) (c .before .before .before .before .before .before .before .before .before .args .p) (c .before .before .before .before .before .before .before .before .before .args .last) (c .before .before .before .before .before .before .before .before .before .args .x) (now (c .before .before .before .before .before .before .before .before .before .args .at)) (c .before .before .before .before .before .before .before .before .before .pre) (sym (c .before .before .before .before .before .before .byte .ensures) ∙ c .before .before .before .match .keys1))
 
 same-length : tie.Need-same-length
 same-length c = search needs
 
 returns-2 : tie.Need-returns-2
-returns-2 c = simp (c .with-event .ensures, c .before .byte2 .ensures, c .before .before .before .before .value-at .ensures, c .before .before .before .before .before .next-at .ensures) (event-taken (now (c .before .before .before .before .before .before .before .before .before .args .s)) (c .before .before .before .before .before .before .before .before .before .args .p) (c .before .before .before .before .before .before .before .before .before .args .last) (c .before .before .before .before .before .before .before .before .before .args .x) (now (c .before .before .before .before .before .before .before .before .before .args .at)) (c .before .before .before .before .before .before .before .before .before .pre) (sym (c .before .before .before .before .before .before .byte .ensures) ∙ c .before .before .before .match .keys2))
+returns-2 c = simp (c .with-event .ensures, c .before .byte3 .ensures, c .before .before .before .before .value-at .ensures, c .before .before .before .before .before .next-at .ensures) (event-taken (now (c .before .before .before .before .before .before .before .before .before .args .s)) (c .before .before .before .before .before .before .before .before .before .args .p) (c .before .before .before .before .before .before .before .before .before .args .last) (c .before .before .before .before .before .before .before .before .before .args .x) (now (c .before .before .before .before .before .before .before .before .before .args .at)) (c .before .before .before .before .before .before .before .before .before .pre) (sym (c .before .before .before .before .before .before .byte .ensures) ∙ c .before .before .before .match .keys2))
 
 returns-3 : tie.Need-returns-3
 returns-3 c = simp (c .with-row .ensures, c .before .before .before .next-at .ensures) (row-taken (now (c .before .before .before .before .before .before .before .args .s)) (c .before .before .before .before .before .before .before .args .p) (c .before .before .before .before .before .before .before .args .last) (c .before .before .before .before .before .before .before .args .x) (now (c .before .before .before .before .before .before .before .args .at)) (c .before .before .before .before .before .before .before .pre) (sym (c .before .before .before .before .byte .ensures) ∙ c .before .match .keys3))
@@ -70,12 +72,13 @@ after-spec =
     byte-requires
     next-at-requires
     value-at-requires
+    byte-requires-2
     head-of-requires
     with-head-requires
     cast-i
     mul-at
     slice-write-at
-    byte-requires-2
+    byte-requires-3
     with-event-requires
     with-row-requires
     with-pair-requires

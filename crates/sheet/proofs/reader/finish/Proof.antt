@@ -1,11 +1,14 @@
 -- `sheet::reader::finish` meets its contract, test by test. Assumes nothing.
-use mathlib.Core.Path.{sym, ap, _∙_}
+use mathlib.Core.Path.{_≡_, sym, ap, _∙_}
+use mathlib.Core.Option.{none, some}
 use denote.Ref.{now}
 use native.Mathlib.Omega.{arith}
-use borrow.Author.Tests.{not-true, not-false}
 use Rattle.basis.specs.Test.{non}
-use Rattle.sheet.specs.Parse.{finish}
+use Rattle.parse.specs.Parse.{lowestLacking, completed, finish}
+use Rattle.entries.specs.Entries.{execution}
+use Rattle.sheet.specs.Between.{view}
 use Rattle.sheet.proofs.BetweenLaws.{counted-of}
+use Rattle.sheet.proofs.CompleteLaws.{place-found}
 use borrow.Author.Needs.{needs}
 use Rattle.sheet.proofs.reader.finish.Statement.{statement}
 use Rattle.sheet.proofs.reader.finish.Tie as tie
@@ -15,22 +18,52 @@ unfolding finish
 returns c = simp (c .if1 .taken)
 
 some-read-requires : tie.Need-some-read-requires
-some-read-requires c κs = counted-of _ _ _ _ _ (c .before .before .before .pre .between)
+some-read-requires c κs = search needs
 
-cast-t9 : tie.Need-cast-t9
-cast-t9 c = let k = c .before .before .before .before .before .pre .short in omega arith
+cast-t11 : tie.Need-cast-t11
+cast-t11 c = let k = c .before .before .before .before .before .pre .short in omega arith
 
 returns-2 : tie.Need-returns-2
 unfolding finish non
 returns-2 c = simp (c .before .before .if1 .left, simp (c .before .some-read .ensures) at (c .if2 .taken))
 
-complete-requires : tie.Need-complete-requires
-complete-requires c κs = counted-of _ _ _ _ _ (c .before .before .before .before .before .pre .between)
+lowest-lacking-requires : tie.Need-lowest-lacking-requires
+lowest-lacking-requires c κs = search needs
+
+enum-told : tie.Need-enum-told
+enum-told c = search needs
+
+enum-known-lack : tie.Need-enum-known-lack
+enum-known-lack c = search needs
+
+place-of-requires : tie.Need-place-of-requires
+place-of-requires c κs = search needs
+
+place-of-requires-2 : tie.Need-place-of-requires-2
+place-of-requires-2 c κs = search needs
 
 returns-3 : tie.Need-returns-3
+unfolding finish non completed
+returns-3 c = let l : none ≡ lowestLacking (execution (now (c .before .before .before .before .before .before .before .before .args .s)) (c .before .before .before .before .before .before .before .before .args .x) (now (c .before .before .before .before .before .before .before .before .args .at))) = rw (c .enum-told .given .1) at (c .before .before .lowest-lacking .ensures) in
+    simp (c .before .before .before .before .before .if1 .left, simp (c .before .before .before .before .some-read .ensures) at (c .before .before .before .if2 .left), ← l)
+
+returns-4 : tie.Need-returns-4
 unfolding finish non
-returns-3 c = c .complete .ensures ∙ simp (c .before .before .before .if1 .left, simp (c .before .before .some-read .ensures) at (c .before .if2 .left))
+returns-4 c = let l : some _ ≡ lowestLacking (execution (now (c .before .before .before .before .before .before .before .before .before .before .before .args .s)) (c .before .before .before .before .before .before .before .before .before .before .before .args .x) (now (c .before .before .before .before .before .before .before .before .before .before .before .args .at))) = rw (c .before .before .before .lack .given .1) at (c .before .before .before .before .before .lowest-lacking .ensures) in
+    simp (c .before .before .before .before .before .before .before .before .if1 .left, simp (c .before .before .before .before .before .before .before .some-read .ensures) at (c .before .before .before .before .before .before .if2 .left), ← l, c .place-of2 .ensures, c .before .place-of .ensures) (sym (place-found (now (c .before .before .before .before .before .before .before .before .before .before .before .args .s)) (c .before .before .before .before .before .before .before .before .before .before .before .args .last) (c .before .before .before .before .before .before .before .before .before .before .before .args .x) (now (c .before .before .before .before .before .before .before .before .before .before .before .args .at)) _ (counted-of _ _ _ _ _ (c .before .before .before .before .before .before .before .before .before .before .before .pre .between)) (sym l)))
 
 pub finish-spec : {M : Type 1} → statement M
 finish-spec =
-    tie.close (tie.spec returns some-read-requires cast-t9 returns-2 complete-requires returns-3)
+    tie.close
+    (tie.spec
+    returns
+    some-read-requires
+    cast-t11
+    returns-2
+    lowest-lacking-requires
+    enum-told
+    enum-known-lack
+    place-of-requires
+    place-of-requires-2
+    returns-3
+    returns-4)

@@ -2,7 +2,7 @@
 use mathlib.Core.Path.{_≡_, refl, sym, ap, _∙_}
 use denote.Ref.{now}
 use native.Mathlib.Omega.{arith}
-use Rattle.sheet.proofs.ParseLaws.{too-long}
+use Rattle.parse.proofs.ParseLaws.{too-long}
 use Rattle.sheet.proofs.CompleteLaws.{handed-refusal, handed-whole}
 use borrow.Author.Needs.{needs}
 use Rattle.sheet.proofs.reader.read.Statement.{statement}

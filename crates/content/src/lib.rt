@@ -1,0 +1,108 @@
+// The content of a field by itself: a test for each sentence of 01 that asks for nothing but the field. Reader and writer use them.
+use format::Head;
+use format::MAX_AGENTS;
+use format::MAX_INITS;
+use format::MAX_MEMORY;
+use format::MAX_OTHERS;
+use format::Pair;
+use format::Row;
+use format::Shape;
+ghost use mathlib.Core.Path.{_≡_};
+ghost use Rattle.format.specs.Execution.{rowBelow, pairBelow};
+ghost use Rattle.content.specs.Content.{within, headFits, inside, initFormed, sized, kindFits, otherFormed, formed, alone, roomIn};
+
+pub fn within(lo: u8, hi: u8, n: u8) -> bool
+    ensures { λ r. ⌜ r ≡ within lo hi n ⌝ }
+{
+    (lo <= n) & (n <= hi)
+}
+
+pub fn head_fits(h: Head) -> bool
+    ensures { λ r. ⌜ r ≡ headFits h ⌝ }
+{
+    (h.edition == 1) & (within(1, MAX_AGENTS, h.agents) & within(1, MAX_MEMORY, h.size))
+}
+
+fn inside(size: u8, a: Shape) -> bool
+    ensures { λ r. ⌜ r ≡ inside size a ⌝ }
+{
+    a.start as u16 + a.width as u16 <= size as u16
+}
+
+fn init_formed(agent: u8, a: Shape) -> bool
+    ensures { λ r. ⌜ r ≡ initFormed agent a ⌝ }
+{
+    (agent == 0) & ((a.kind == 2) & within(1, MAX_MEMORY, a.width))
+}
+
+// A width of 0 divides nothing, so it is answered before the remainder is taken.
+fn sized(a: Shape) -> bool
+    ensures { λ r. ⌜ r ≡ sized a ⌝ }
+{
+    let w = a.width;
+    if w == 0 {
+        return false;
+    }
+    let listed = (w == 1) | ((w == 2) | ((w == 4) | (w == 8)));
+    listed & (!access::sc(a) | (a.start % w == 0))
+}
+
+fn kind_fits(a: Shape) -> bool
+    ensures { λ r. ⌜ r ≡ kindFits a ⌝ }
+{
+    let kind = a.kind;
+    match kind {
+        1 => sized(a),
+        2 => sized(a),
+        3 => access::sc(a) & sized(a),
+        4 => access::sc(a) & ((a.start == 0) & (a.width == 0)),
+        _ => false,
+    }
+}
+
+fn other_formed(agents: u8, agent: u8, a: Shape) -> bool
+    ensures { λ r. ⌜ r ≡ otherFormed agents agent a ⌝ }
+{
+    within(1, agents, agent) & kind_fits(a)
+}
+
+fn formed(agents: u8, agent: u8, a: Shape) -> bool
+    ensures { λ r. ⌜ r ≡ formed agents agent a ⌝ }
+{
+    let mode = a.mode;
+    match mode {
+        0 => init_formed(agent, a),
+        1 => other_formed(agents, agent, a),
+        2 => other_formed(agents, agent, a),
+        _ => false,
+    }
+}
+
+// An event, whatever stands before it.
+pub fn alone(h: Head, agent: u8, a: Shape) -> bool
+    ensures { λ r. ⌜ r ≡ alone h agent a ⌝ }
+{
+    inside(h.size, a) & formed(h.agents, agent, a)
+}
+
+// Is there room for an event of the agent behind so many inits and so many others?
+pub fn room_for(inits: u8, others: u8, agent: u8) -> bool
+    ensures { λ r. ⌜ r ≡ roomIn inits others agent ⌝ }
+{
+    match agent {
+        0 => inits < MAX_INITS,
+        _ => others < MAX_OTHERS,
+    }
+}
+
+pub fn row_below(q: Row, r: Row) -> bool
+    ensures { λ y. ⌜ y ≡ rowBelow q r ⌝ }
+{
+    (q.reader < r.reader) | ((q.reader == r.reader) & (q.address < r.address))
+}
+
+pub fn pair_below(q: Pair, p: Pair) -> bool
+    ensures { λ y. ⌜ y ≡ pairBelow q p ⌝ }
+{
+    (q.first < p.first) | ((q.first == p.first) & (q.second < p.second))
+}

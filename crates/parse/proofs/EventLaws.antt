@@ -1,0 +1,168 @@
+-- What an event's value without a fault is: specs/Promise.antt's `WellEvent`. Assumes nothing.
+--     seen-length, written-length   the data is as long as it has to be
+--     well-event                    what it describes
+--     stands-first                  an init among the events before it
+use mathlib.Core.Path.{_≡_, refl, sym, ap, _∙_, subst}
+use mathlib.Core.Logic.{_⊎_, inl, inr, ⊎-elim, _↔_}
+use mathlib.Core.Bool.{Bool, true, false, cond, false≢true}
+use mathlib.Core.List.{List, [], _∷_, List·Memᴰ}
+use Prim.Native.Nat.{ℕ, zero, suc, _+_, _-_, _<_, _≤_}
+use native.Mathlib.Omega.{arith}
+use borrow.Author.Tests.{eqb-true, eqb-false, leb-true, ltb-true, eq-eqb, ne-eqb}
+use lib.Dec.{T, eqb, ltb, leb}
+use lib.ListN.{length, getD, take, drop, length-take, length-drop}
+use Rattle.basis.specs.Test.{_and_, _or_, non, any, all}
+use Rattle.basis.proofs.BoolLaws.{true-T, T-true, false-T, and-both, or-either, cond-cases, non-true, and-holds}
+use Rattle.basis.proofs.LoopLaws.{any-intro}
+use Rattle.format.specs.declared.Head.{Head}
+use Rattle.format.specs.declared.Shape.{Shape}
+use Rattle.format.specs.declared.Row.{Row}
+use Rattle.format.specs.declared.Pair.{Pair}
+use Rattle.format.specs.Limits.{maxMemory}
+use Rattle.format.specs.Shape.{reads, writes, initial, sc, divides, tearOf}
+use Rattle.format.specs.Event.{Access, Event, isInit, meets, readsAt, writesAt, isMarker}
+use Rattle.format.specs.Execution.{eventNo}
+use Rattle.format.specs.Layout.{eventBytes, dataBytes, agentOf, shapeOf, seenOf, writtenOf, accessOf, eventOf}
+use Rattle.content.specs.Content.{inside, formed, alone, standsFirst, eventFits}
+use Rattle.content.proofs.ContentLaws.{SizedFacts, KindFacts, a-read, a-write, both, a-marker, InitFacts, OtherFacts, formed-cases}
+use Rattle.parse.specs.Parse.{eventFault}
+use Rattle.parse.specs.Promise.{WellEvent}
+use Rattle.parse.proofs.ParseLaws.{event-passed}
+
+-- ---- the data
+
+module _ (edition : ℕ) (v : List ℕ) (long : length v ≡ eventBytes edition + dataBytes (shapeOf edition v)) where
+  seen-length : length (seenOf edition v) ≡ cond (reads (shapeOf edition v)) (shapeOf edition v .width) 0
+  unfolding seenOf dataBytes
+  seen-length = go (eqb (shapeOf edition v .kind) 3) refl (reads (shapeOf edition v)) refl
+    where
+      go : (b : Bool) → eqb (shapeOf edition v .kind) 3 ≡ b → (c : Bool) → reads (shapeOf edition v) ≡ c
+          → length (cond (reads (shapeOf edition v)) (take (shapeOf edition v .width) (drop (eventBytes edition) v)) []) ≡ cond (reads (shapeOf edition v)) (shapeOf edition v .width) 0
+      go b p false q = rw q
+      go true p true q =
+          let l : length v ≡ eventBytes edition + (shapeOf edition v .width + shapeOf edition v .width) = rw p at long in
+          rw q (simp (length-take, length-drop) (omega arith))
+      go false p true q = let l : length v ≡ eventBytes edition + shapeOf edition v .width = rw p at long in rw q (simp (length-take, length-drop) (omega arith))
+
+  written-length : length (writtenOf edition v) ≡ cond (writes (shapeOf edition v)) (shapeOf edition v .width) 0
+  unfolding writtenOf dataBytes writes _or_
+  written-length = go (eqb (shapeOf edition v .kind) 2) refl (eqb (shapeOf edition v .kind) 3) refl
+    where
+      go : (b : Bool) → eqb (shapeOf edition v .kind) 2 ≡ b → (c : Bool) → eqb (shapeOf edition v .kind) 3 ≡ c
+          → length (cond (eqb (shapeOf edition v .kind) 2) (take (shapeOf edition v .width) (drop (eventBytes edition) v)) (cond (eqb (shapeOf edition v .kind) 3) (take (shapeOf edition v .width) (drop (eventBytes edition + shapeOf edition v .width) v)) []))
+          ≡ cond (eqb (shapeOf edition v .kind) 2 or eqb (shapeOf edition v .kind) 3) (shapeOf edition v .width) 0
+      go true p true q = absurd (let e = eqb-true (shapeOf edition v .kind) 2 p in let f = eqb-true (shapeOf edition v .kind) 3 q in omega arith)
+      go true p false q = let l : length v ≡ eventBytes edition + shapeOf edition v .width = rw q at long in simp (p, q, length-take, length-drop) (omega arith)
+      go false p true q =
+          let l : length v ≡ eventBytes edition + (shapeOf edition v .width + shapeOf edition v .width) = rw q at long in simp (p, q, length-take, length-drop) (omega arith)
+      go false p false q = simp (p, q)
+
+-- ---- an event
+
+module _ (h : Head) (events : List Event) (v : List ℕ) (e : eventFault h events v ≡ 0) where
+  fits : ((inside (h .size) (shapeOf (h .edition) v) ≡ true) × (formed (h .agents) (agentOf v) (shapeOf (h .edition) v) ≡ true)) × ((non (initial (shapeOf (h .edition) v)) or standsFirst events (shapeOf (h .edition) v)) ≡ true)
+  unfolding eventFits alone
+  fits =
+      let w = and-both (inside (h .size) (shapeOf (h .edition) v) and formed (h .agents) (agentOf v) (shapeOf (h .edition) v)) _ (event-passed h events v e .fits) in
+      (and-both (inside (h .size) (shapeOf (h .edition) v)) _ (w .0), w .1)
+
+  cases : InitFacts (agentOf v) (shapeOf (h .edition) v) ⊎ OtherFacts (h .agents) (agentOf v) (shapeOf (h .edition) v)
+  cases = formed-cases (h .agents) (agentOf v) (shapeOf (h .edition) v) (fits .0 .1)
+
+  within-memory : shapeOf (h .edition) v .start + shapeOf (h .edition) v .width ≤ h .size
+  unfolding inside
+  within-memory = leb-true _ _ (fits .0 .0)
+
+  abbrev a : Shape
+  a = shapeOf (h .edition) v
+
+  pub well-event : WellEvent h (eventOf (h .edition) v)
+  well-event =
+      let l = event-passed h events v e .length in
+      go cases (seen-length (h .edition) v l) (written-length (h .edition) v l)
+    where
+      four : KindFacts a → (1 ≤ a .kind) × (a .kind ≤ 4)
+      four (a-read k z) = (omega arith, omega arith)
+      four (a-write k z) = (omega arith, omega arith)
+      four (both k m z) = (omega arith, omega arith)
+      four (a-marker k m) = (omega arith, omega arith)
+
+      sc-both : KindFacts a → a .kind ≡ 3 → a .mode ≡ 2
+      sc-both (a-read k z) q = absurd (omega arith)
+      sc-both (a-write k z) q = absurd (omega arith)
+      sc-both (both k m z) q = m
+      sc-both (a-marker k m) q = m .mode
+
+      size-of : KindFacts a → (a .kind ≡ 4 → ⊥) → SizedFacts a
+      size-of (a-read k z) q = z
+      size-of (a-write k z) q = z
+      size-of (both k m z) q = z
+      size-of (a-marker k m) q = absurd (q k)
+
+      mark : KindFacts a → a .kind ≡ 4 → (a .mode ≡ 2) × (a .start ≡ 0) × (a .width ≡ 0)
+      mark (a-read k z) q = absurd (omega arith)
+      mark (a-write k z) q = absurd (omega arith)
+      mark (both k m z) q = absurd (omega arith)
+      mark (a-marker k m) q = (m .mode, m .start, m .width)
+
+      modes : (a .mode ≡ 1) ⊎ (a .mode ≡ 2) → (a .mode ≤ 2) × (a .mode ≡ 0 → ⊥)
+      modes (inl m) = (omega arith, λ z. omega arith)
+      modes (inr m) = (omega arith, λ z. omega arith)
+
+      go : InitFacts (agentOf v) a ⊎ OtherFacts (h .agents) (agentOf v) a
+          → length (seenOf (h .edition) v) ≡ cond (reads a) (a .width) 0 → length (writtenOf (h .edition) v) ≡ cond (writes a) (a .width) 0
+          → WellEvent h (eventOf (h .edition) v)
+      go (inl i) s w =
+          let k = i .kind in let m = i .mode in let g = i .agent in
+          record {
+            access = accessOf (h .edition) v;
+            one-access = refl;
+            init-agent = ((λ _. g), (λ _. m));
+            init-kind = λ _. k;
+            init-width = λ _. i .width;
+            agent = omega arith;
+            kind = (omega arith, omega arith);
+            mode = omega arith;
+            both-sc = λ q. absurd (omega arith);
+            width = λ q r. absurd (q m);
+            aligned = λ q r. absurd (omega arith);
+            marker = λ q. absurd (omega arith);
+            inside = within-memory;
+            seen = s;
+            written = w;
+            tear = refl;
+          }
+      go (inr o) s w =
+          let n = modes (o .mode) in let g = o .agent in
+          record {
+            access = accessOf (h .edition) v;
+            one-access = refl;
+            init-agent = ((λ z. absurd (n .1 z)), (λ z. absurd (omega arith)));
+            init-kind = λ z. absurd (n .1 z);
+            init-width = λ z. absurd (n .1 z);
+            agent = g .1;
+            kind = four (o .kind);
+            mode = n .0;
+            both-sc = sc-both (o .kind);
+            width = λ z q. size-of (o .kind) q .width;
+            aligned = λ m q. size-of (o .kind) q .aligned m;
+            marker = mark (o .kind);
+            inside = within-memory;
+            seen = s;
+            written = w;
+            tear = refl;
+          }
+
+  -- an init stands behind inits alone, and overlaps none
+  pub stands-first : T (isInit (eventOf (h .edition) v)) → (all isInit events ≡ true) × (any (meets a) events ≡ false)
+  unfolding isInit standsFirst initial
+  stands-first t = go cases (or-either (non (initial a)) (standsFirst events a) (fits .1))
+    where
+      m : InitFacts (agentOf v) a ⊎ OtherFacts (h .agents) (agentOf v) a → a .mode ≡ 0
+      m (inl i) = i .mode
+      m (inr o) = absurd (let z = eqb-true (agentOf v) 0 (T-true _ t) in let g = o .agent in omega arith)
+
+      go : InitFacts (agentOf v) a ⊎ OtherFacts (h .agents) (agentOf v) a → (non (initial a) ≡ true) ⊎ (standsFirst events a ≡ true)
+          → (all isInit events ≡ true) × (any (meets a) events ≡ false)
+      go f (inl p) = absurd (eqb-false (a .mode) 0 (non-true (initial a) p) (m f))
+      go f (inr p) = let w = and-both (all isInit events) (non (any (meets a) events)) p in (w .0, non-true _ (w .1))

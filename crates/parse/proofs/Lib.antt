@@ -1,0 +1,11 @@
+pub mod ParseLaws
+pub mod EventLaws
+pub mod LackLaws
+pub mod LadderLaws
+pub mod PromiseLaws
+pub mod DescribedLaws
+pub mod FormedLaws
+pub mod FramedLaws
+pub mod WellSheetLaws
+pub mod RefusalLaws
+pub mod Examples

@@ -1,0 +1,1 @@
+// What a sheet says: definitions and theorems, no code.

@@ -1,11 +1,12 @@
 #!/usr/bin/env python3
-"""Makes the problems of crates/orders_runs: `make.py` writes its stdin and stdout; `make.py --check` compares them with what is stored.
+"""Makes the stored problems and answers beside it: `make.py` writes them; `make.py --check` compares them with what is stored.
+bench/orders runs them through the exports of crates/orders_c: `bench/orders/run problems tests/orders/problems tests/orders/answers`.
 
 Everything is found by enumerating permutations and subsets from the definitions alone, with no search and no masks taken from the crates:
 an order meets a problem when it contains `before` and no bar's W, V, R stand in this order.
 
-A problem in stdin, one byte each: inits k, events m, scratch bytes, order bytes, limit, count of before pairs, count of bars; then the pairs
-(a, b): a before b; then the bars (r, w, v). Its line in stdout: `none` or the order buffer's bytes in decimal (those after the events are as
+A problem, one byte each: inits k, events m, scratch bytes, order bytes, limit, count of before pairs, count of bars; then the pairs
+(a, b): a before b; then the bars (r, w, v). Its line among the answers: `none` or the order buffer's bytes in decimal (those after the events are as
 they were); `possible` or `impossible`; `sets N` or `over`; `clean`, where after each of the three the needed scratch is zero and its rest as it was.
 """
 import itertools
@@ -14,7 +15,6 @@ import random
 import sys
 
 HERE = os.path.dirname(os.path.abspath(__file__))
-CRATE = os.path.join(HERE, "..", "..", "crates", "orders_runs")
 FILL = 170  # what the buffers hold at first
 
 
@@ -138,9 +138,9 @@ def main():
             data += bytes(bar)
         lines.append(answer(p))
     out = ("\n".join(lines) + "\n").encode()
-    files = {"stdin": bytes(data), "stdout": out}
+    files = {"problems": bytes(data), "answers": out}
     for name, body in files.items():
-        path = os.path.join(CRATE, name)
+        path = os.path.join(HERE, name)
         if "--check" in sys.argv:
             if open(path, "rb").read() != body:
                 print(f"make.py: {name} is not what the script makes")

@@ -1,5 +1,7 @@
 // Times the proved search against the ordinary one, on the same problems, with buffers reused. Answers and buffers are compared first.
+// `compare` only compares them; `problems FILE FILE` holds the proved search against stored answers (see stored.rs).
 mod plain;
+mod stored;
 use std::time::Instant;
 
 extern "C" {
@@ -131,6 +133,10 @@ fn compare() {
 fn main() {
     if std::env::args().nth(1).as_deref() == Some("compare") {
         return compare();
+    }
+    if std::env::args().nth(1).as_deref() == Some("problems") {
+        let file = |i| std::fs::read(std::env::args().nth(i).expect("a file")).expect("can be read");
+        return stored::hold(&file(2), &file(3));
     }
     let rounds: usize = std::env::args().nth(1).map_or(40, |s| s.parse().unwrap());
     println!("| Problems | Events | Rattle | Rust | Ratio |");

@@ -20,9 +20,9 @@ use Rattle.basis.specs.Test.{_and_, _or_, non}
 use Rattle.basis.proofs.BoolLaws.{and-fails, and-both, or-none, non-holds, and-assoc, or-assoc, non-fails, eqb-swap, below-next, amp-and, not-non, by-bool, false-of}
 use Rattle.format.specs.declared.Row.{Row}
 use Rattle.sets.specs.Mask.{slots, mem, full}
-use Rattle.sets.specs.Closure.{taken}
+use Rattle.closing.specs.Closure.{taken}
 use Rattle.sets.proofs.MaskLaws.{mem-empty, mem-diff, mem-full, full-has, lt-of-members, ext-all}
-use Rattle.sets.proofs.ClosureLaws.{closed-unique}
+use Rattle.closing.proofs.ClosureLaws.{closed-unique}
 use Rattle.cells.specs.Walk.{upTo, picked}
 use Rattle.cells.specs.Cells.{gaining, placing}
 use Rattle.cells.proofs.WalkLaws.{upTo-more, mem-picked}

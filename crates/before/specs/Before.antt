@@ -19,7 +19,7 @@ use Rattle.format.specs.declared.Row.{Row}
 use Rattle.format.specs.declared.Pair.{Pair}
 use Rattle.format.specs.Shape.{overlap, bothSc}
 use Rattle.sets.specs.Mask.{slots}
-use Rattle.sets.specs.Closure.{taken, Closed}
+use Rattle.closing.specs.Closure.{taken, Closed}
 use Rattle.cells.specs.Walk.{upTo, picked}
 use Rattle.cells.specs.Cells.{gaining, scatter, placing}
 use Rattle.tables.specs.Tables.{agentIn, atIn, acrossIn, rowIn, pairIn}

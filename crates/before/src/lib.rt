@@ -198,6 +198,6 @@ pub fn fill(
 {
     let n = least(events, SLOTS);
     steps(t, n, q, rows, p, pairs, succ);
-    sets::close(succ, n);
+    closing::close(succ, n);
     turn(succ, n, pred);
 }

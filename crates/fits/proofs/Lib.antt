@@ -1,1 +1,1 @@
-pub mod FitsLaws
+pub mod ByNumberLaws

@@ -7,7 +7,7 @@ ghost use mathlib.Core.Path.{_≡_};
 ghost use Rattle.basis.specs.Test.{any};
 ghost use Rattle.content.specs.Content.{eventFits, rowRises, rowFits, pairRises, pairFits};
 ghost use Rattle.entries.specs.Entries.{eventsIn, rowsIn, pairsIn};
-ghost use Rattle.fits.specs.Fits.{shapeNo, agentNo, blocks};
+ghost use Rattle.fits.specs.steps.ByNumber.{shapeNo, agentNo, blocks};
 
 // The shape of event e; one that does nothing where there is no such event.
 fn shape_no(s: &[u8], x: Counts, at: &[u16], e: u8) -> Shape

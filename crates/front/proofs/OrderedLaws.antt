@@ -27,7 +27,7 @@ use Rattle.format.specs.Execution.{Execution, event}
 use Rattle.format.proofs.ShapeLaws.{both-cover}
 use Rattle.format.proofs.ExecutionLaws.{shape-covers}
 use Rattle.sets.specs.Mask.{slots, mem}
-use Rattle.sets.specs.Closure.{taken, Closed}
+use Rattle.closing.specs.Closure.{taken, Closed}
 use Rattle.sets.proofs.MaskLaws.{mem-empty, ext-all}
 use Rattle.model.specs.Events.{anyTwo, atRow}
 use Rattle.model.specs.Happens.{agentOrder, rowSyncs, synchronises, initFirst, step, Tests}

@@ -16,7 +16,7 @@ use Rattle.format.proofs.EventLaws.{writesAt-nobody}
 use Rattle.format.proofs.ExecutionLaws.{event-inside}
 use Rattle.parse.proofs.PromiseLaws.{promise}
 use Rattle.sets.specs.Mask.{slots}
-use Rattle.sets.specs.Table.{bytesFor, cleared}
+use Rattle.marks.specs.Table.{bytesFor, cleared}
 use Rattle.orders.specs.Problem.{Problem}
 use Rattle.orders.specs.Order.{Meets}
 use Rattle.orders.specs.First.{FirstOf}

@@ -17,7 +17,7 @@ use Rattle.sheet.specs.Handed.{HandedWhole}
 use Rattle.parse.specs.Promise.{WellFormed}
 use Rattle.parse.proofs.PromiseLaws.{promise}
 use Rattle.sets.specs.Mask.{slots}
-use Rattle.sets.specs.Table.{bytesFor, cleared}
+use Rattle.marks.specs.Table.{bytesFor, cleared}
 use Rattle.answer.specs.declared.Names.{Names}
 use Rattle.model.specs.Rules.{faulty, fault}
 use Rattle.model.specs.Judged.{needed, lent, admitted, JudgedRefused, JudgedBroken}

@@ -67,7 +67,7 @@ fn weigh(
     let rule = rules::first_broken(&t, events, &succ, &pred, &q, rows);
     match rule {
         Rule::Breach(n, names) => {
-            sets::clear(scratch, need);
+            marks::clear(scratch, need);
             Answer::Broken(n, names)
         }
         Rule::Kept => arrange(s, inits, events, rows, &t, &q, &succ, &pred, scratch, order),
@@ -80,7 +80,7 @@ fn admit(s: &[u8], x: Counts, at: &[u16], scratch: &mut [u8], order: &mut [u8]) 
     ensures { λ r. ⌜ Judged (now (s .entry)) (now (scratch .entry)) (now (order .entry)) r (now (scratch .exit)) (now (order .exit)) ⌝ }
 {
     let n = (x.events - x.inits) as usize;
-    let need = sets::needed(n);
+    let need = marks::needed(n);
     if scratch.len() < need {
         return Answer::Refused(12, 0);
     }

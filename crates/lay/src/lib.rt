@@ -21,8 +21,8 @@ fn event(s: &[u8], edition: u8, p: u16, e: usize, t: &mut [u8])
     let k = 2 * (e % SLOTS);
     let agent = entries::agent_at(s, p);
     let a = entries::shape_at(s, edition, p);
-    tables::put_agent(t, e, agent);
-    tables::put_access(t, k, a);
+    store::put_agent(t, e, agent);
+    store::put_access(t, k, a);
 }
 
 // The first n events; n counts up to the slots.
@@ -82,7 +82,7 @@ fn row(s: &[u8], x: Counts, at: &[u16], t: &[u8], j: u16, q: &mut [u8])
     let write = access(t, r.writer);
     let behind = data_at(edition, entries::place_of(at, r.writer), write, r.address);
     let wrote = field::byte(s, behind as usize + passed(write) as usize);
-    tables::put_row(q, j as usize, r, seen, wrote);
+    store::put_row(q, j as usize, r, seen, wrote);
 }
 
 // The sheet's rows, as many as have a place, by the table of accesses.
@@ -99,7 +99,7 @@ fn rows(s: &[u8], x: Counts, at: &[u16], t: &[u8], q: &mut [u8])
 fn pair(s: &[u8], x: Counts, j: u16, p: &mut [u8])
     ensures { λ _. ⌜ now (p .exit) ≡ pairPut (now (s .entry)) x j (now (p .entry)) ⌝ }
 {
-    tables::put_pair(p, j as usize, entries::pair_no(s, x, j));
+    store::put_pair(p, j as usize, entries::pair_no(s, x, j));
 }
 
 // The sheet's pairs, as many as have a place.

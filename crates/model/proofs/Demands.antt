@@ -18,8 +18,8 @@ use Rattle.parse.proofs.DescribedLaws.{rowless-refused}
 use Rattle.parse.proofs.PromiseLaws.{promise}
 use Rattle.parse.proofs.WellSheetLaws.{exactly}
 use Rattle.parse.proofs.RefusalLaws.{refusal, refusal-number}
-use Rattle.sets.specs.Table.{cleared}
-use Rattle.sets.proofs.TableLaws.{cleared-within, cleared-rest, length-cleared}
+use Rattle.marks.specs.Table.{cleared}
+use Rattle.marks.proofs.TableLaws.{cleared-within, cleared-rest, length-cleared}
 use Rattle.orders.specs.Order.{Meets}
 use Rattle.orders.specs.First.{FirstOf}
 use Rattle.orders.proofs.InitsLaws.{first-inits}

@@ -26,7 +26,7 @@ use Rattle.format.specs.Event.{isInit, readsAt, shapeAt, writesAt}
 use Rattle.format.specs.Execution.{Execution, event}
 use Rattle.format.proofs.ExecutionLaws.{shape-mem, reads-covers, reads-reads, writes-covers, access-inside, agent-inside, covering-inside}
 use Rattle.sets.specs.Mask.{mem, Has}
-use Rattle.sets.specs.Closure.{Reach, Closed, step as reach-step, more as reach-more}
+use Rattle.closing.specs.Closure.{Reach, Closed, step as reach-step, more as reach-more}
 use Rattle.sets.proofs.MaskLaws.{mem-empty}
 use Rattle.model.specs.Events.{anyTwo}
 use Rattle.model.specs.Happens.{agentOrder, rowSyncs, synchronises, initFirst, step, Happens, one, more, Tests}

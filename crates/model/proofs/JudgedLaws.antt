@@ -16,7 +16,7 @@ use lib.ListN.{length, take, drop, take-append-drop}
 use Rattle.basis.proofs.BoolLaws.{T-false}
 use Rattle.format.specs.Execution.{Execution}
 use Rattle.parse.specs.Parse.{Parsed, refused, whole, parse}
-use Rattle.sets.specs.Table.{cleared}
+use Rattle.marks.specs.Table.{cleared}
 use Rattle.orders.specs.Order.{Meets}
 use Rattle.orders.specs.First.{FirstOf}
 use Rattle.orders.proofs.FirstLaws.{first-unique}

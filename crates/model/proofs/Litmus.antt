@@ -5,7 +5,7 @@ use mathlib.Core.List.{List, _++_, List·Memᴰ, List·Memᴰ·head, List·Mem�
 use Prim.Native.Nat.{ℕ}
 use lib.ListN.{length, drop}
 use Rattle.basis.specs.Test.{each}
-use Rattle.sets.specs.Table.{cleared}
+use Rattle.marks.specs.Table.{cleared}
 use Rattle.parse.proofs.PromiseLaws.{promise}
 use Rattle.answer.specs.declared.Answer.{Answer}
 use Rattle.model.specs.Judged.{Judged}

@@ -11,8 +11,8 @@ use lib.ListN.{length, take, drop}
 use lib.Seq.{take-append-seam, drop-append-seam}
 use Rattle.format.specs.Execution.{Execution}
 use Rattle.parse.specs.Parse.{Parsed, refused, whole, parse}
-use Rattle.sets.specs.Table.{cleared}
-use Rattle.sets.proofs.TableLaws.{cleared-min}
+use Rattle.marks.specs.Table.{cleared}
+use Rattle.marks.proofs.TableLaws.{cleared-min}
 use Rattle.orders.specs.Order.{Meets}
 use Rattle.orders.specs.First.{FirstOf}
 use Rattle.model.specs.Happens.{Tests}

@@ -15,7 +15,7 @@ use Rattle.parse.specs.Promise.{WellFormed}
 use Rattle.parse.specs.WellSheet.{WellSheet}
 use Rattle.parse.proofs.PromiseLaws.{promise}
 use Rattle.parse.proofs.WellSheetLaws.{exactly}
-use Rattle.sets.proofs.TableLaws.{bytes-mono}
+use Rattle.marks.proofs.TableLaws.{bytes-mono}
 use Rattle.orders.specs.Order.{Meets}
 use Rattle.orders.specs.First.{FirstOf}
 use Rattle.orders.proofs.FirstLaws.{first-unique}

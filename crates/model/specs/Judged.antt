@@ -16,7 +16,7 @@ use lib.Dec.{ltb}
 use lib.ListN.{length, take, drop}
 use Rattle.format.specs.Execution.{Execution, others}
 use Rattle.parse.specs.Parse.{Parsed, refused, whole, parse}
-use Rattle.sets.specs.Table.{bytesFor, cleared}
+use Rattle.marks.specs.Table.{bytesFor, cleared}
 use Rattle.orders.specs.Order.{Meets}
 use Rattle.orders.specs.First.{FirstOf}
 use Rattle.answer.specs.declared.Names.the-variants.{Nobody}

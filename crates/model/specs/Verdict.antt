@@ -14,7 +14,7 @@ use Rattle.format.specs.Limits.{maxOthers, maxEvents}
 use Rattle.format.specs.Execution.{Execution}
 use Rattle.parse.specs.Parse.{refused, parse}
 use Rattle.parse.specs.WellSheet.{WellSheet}
-use Rattle.sets.specs.Table.{bytesFor}
+use Rattle.marks.specs.Table.{bytesFor}
 use Rattle.orders.specs.Order.{In, Meets}
 use Rattle.orders.specs.First.{FirstOf}
 use Rattle.answer.specs.declared.Settled.{Settled}

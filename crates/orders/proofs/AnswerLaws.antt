@@ -1,7 +1,7 @@
--- The laws of specs/Answer.antt and of the answers of specs/Reachable.antt. Assumes nothing.
+-- The laws of specs/Answer.antt. Assumes nothing.
 --     ordered-first ordered-none           under `Begins`: what `first` finds is the first of all orders that meet the problem, or none does
 --     possible-meets possible-none         the same for `possible`
---     answered-unique told-unique tallied-unique    two conforming answers are equal, buffers too
+--     answered-unique told-unique    two conforming answers are equal, buffers too
 --     answered-unfit answered-fit ..       how the code's answers are made
 use Prim.Native.Nat.{ℕ, _+_, _-_, _<_, _≤_, min}
 use mathlib.Core.Path.{_≡_, refl, sym, ap, subst, _∙_}
@@ -12,9 +12,9 @@ use native.Mathlib.Decide.{decLe}
 use lib.ListN.{length, take, drop}
 use lib.Seq.{take-at, drop-at, length-take-le}
 use Rattle.basis.specs.Test.{from}
-use Rattle.sets.specs.Mask.{slots, full}
-use Rattle.sets.specs.Table.{bytesFor, cleared}
-use Rattle.sets.proofs.TableLaws.{cleared-again, length-cleared, marked-cleared, place-within}
+use Rattle.sets.specs.Mask.{slots}
+use Rattle.marks.specs.Table.{bytesFor, cleared}
+use Rattle.marks.proofs.TableLaws.{cleared-again, length-cleared, marked-cleared, place-within}
 use Rattle.orders.specs.Problem.{Problem}
 use Rattle.orders.specs.Order.{Meets}
 use Rattle.orders.specs.First.{FirstOf}
@@ -22,14 +22,10 @@ use Rattle.orders.specs.Step.{Below, Runs, Dead}
 use Rattle.orders.specs.Inits.{Begins}
 use Rattle.orders.specs.Tables.{tabled}
 use Rattle.orders.specs.Answer.{Fits, Possible, Ordered, Told, Answered}
-use Rattle.orders.specs.declared.Count.{Count}
-use Rattle.orders.specs.declared.Count.the-variants.{All, Over}
-use Rattle.orders.specs.Reachable.{CountIs, Tallied}
-use Rattle.orders.specs.Walk.{Starting, Walked, Counting, Searched}
+use Rattle.orders.specs.Walk.{Starting, Walked, Searched}
 use Rattle.orders.proofs.FirstLaws.{first-unique}
 use Rattle.orders.proofs.TrailLaws.{runs-length}
 use Rattle.orders.proofs.InitsLaws.{from-length, from-take, whole-first, whole-none, runs-whole}
-use Rattle.orders.proofs.ReachableLaws.{count-unique}
 
 -- ---- whether it fits
 
@@ -105,14 +101,6 @@ told-unique {k} {m} {scratch = scratch} r q {s} {t} a b = go (fits-or k m (lengt
     go (yes f) = possible-unique r q (a .fit f) (b .fit f)
     go (no f) = let x = a .unfit f in let y = b .unfit f in (x .0 ∙ sym (y .0), x .1 ∙ sym (y .1))
 
-pub tallied-unique : {k m : ℕ} {before bars scratch : List ℕ} {limit : ℕ} (r q : Count) {s t : List ℕ}
-    → Tallied k m before bars scratch limit r s → Tallied k m before bars scratch limit q t → (r ≡ q) × (s ≡ t)
-tallied-unique {k} {m} {before} {bars} {scratch} {limit} r q {s} {t} a b = go (fits-or k m (length scratch))
-  where
-    go : Dec (Fits k m (length scratch)) → (r ≡ q) × (s ≡ t)
-    go (yes f) = let x = a .fit f in let y = b .fit f in (count-unique (tabled m before bars) (full k) limit r q (x .0) (y .0), x .1 ∙ sym (y .1))
-    go (no f) = let x = a .unfit f in let y = b .unfit f in (x .0 ∙ sym (y .0), x .1 ∙ sym (y .1))
-
 -- ---- how the code's answers are made
 
 -- a cleared scratch is what a walk starts from
@@ -149,12 +137,6 @@ searched P k scratch need {t} {u} {v} f e c w d =
       found = w .found;
       none = w .none;
     }
-
-pub tallied : (k m : ℕ) (before bars scratch : List ℕ) (limit need : ℕ) {t u v : List ℕ} {r : Count} → Fits k m (length scratch)
-    → need ≡ bytesFor (m - k) → t ≡ cleared need scratch → Counting (tabled m before bars) k t limit r u → v ≡ cleared need u
-    → Tallied k m before bars scratch limit r v
-tallied k m before bars scratch limit need {t} {u} {v} f e c w d =
-    record { fit = λ g. (w .count, clean-again (m - k) need scratch t u v (f .scratch) e c (w .size) (w .rest) d); unfit = λ g. absurd (g f) }
 
 module _ {k m : ℕ} {before bars scratch order : List ℕ} where
   pub answered-unfit : (Fits k m (length scratch) × (m ≤ length order) → ⊥) → Answered k m before bars scratch order false scratch order

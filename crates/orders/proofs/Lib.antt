@@ -5,9 +5,7 @@ pub mod InitsLaws
 pub mod TablesLaws
 pub mod TrailLaws
 pub mod StandLaws
+pub mod NextLaws
 pub mod SeekLaws
-pub mod ReachableLaws
-pub mod TallyLaws
 pub mod AnswerLaws
 pub mod Promises
-pub mod NextLaws

@@ -1,10 +1,9 @@
 -- The promises of specs/Promises.antt hold. Assumes nothing.
-use Rattle.orders.specs.Promises.{FirstIsFirst, FirstBegins, PossibleIsMeets, FirstAgrees, PossibleAgrees, CountAgrees, StepsAreOrders, DeadEnds, FewerKeep, CountAtMost}
+use Rattle.orders.specs.Promises.{FirstIsFirst, FirstBegins, PossibleIsMeets, FirstAgrees, PossibleAgrees, StepsAreOrders, DeadEnds, FewerKeep}
 use Rattle.orders.proofs.StepLaws.{dead-here}
 use Rattle.orders.proofs.OrderLaws.{meets-runs, runs-meets, meets-fewer}
 use Rattle.orders.proofs.InitsLaws.{first-inits}
-use Rattle.orders.proofs.ReachableLaws.{counted-most}
-use Rattle.orders.proofs.AnswerLaws.{ordered-first, ordered-none, possible-meets, possible-none, answered-unique, told-unique, tallied-unique}
+use Rattle.orders.proofs.AnswerLaws.{ordered-first, ordered-none, possible-meets, possible-none, answered-unique, told-unique}
 
 pub first-is-first : FirstIsFirst
 first-is-first k m before bars scratch order s o r b f l a = let x = a .fit f l in (ordered-first b x, ordered-none b x)
@@ -21,9 +20,6 @@ first-agrees k m before bars scratch order r q s t o p = answered-unique r q
 pub possible-agrees : PossibleAgrees
 possible-agrees k m before bars scratch r q s t = told-unique r q
 
-pub count-agrees : CountAgrees
-count-agrees k m before bars scratch limit r q s t = tallied-unique r q
-
 pub steps-are-orders : StepsAreOrders
 steps-are-orders P k b l = (meets-runs P b l, runs-meets P b l)
 
@@ -32,6 +28,3 @@ dead-ends = dead-here
 
 pub fewer-keep : FewerKeep
 fewer-keep = meets-fewer
-
-pub count-at-most : CountAtMost
-count-at-most P k c = counted-most

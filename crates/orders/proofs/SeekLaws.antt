@@ -12,14 +12,15 @@ use lib.ListN.{length, getD, set, take}
 use Rattle.basis.proofs.BoolLaws.{not-both-ways, false-of}
 use Rattle.sets.specs.Mask.{mem, Has, insert, full, above}
 use Rattle.sets.specs.Count.{count}
-use Rattle.sets.specs.Table.{isMarked, marking}
+use Rattle.marks.specs.Table.{isMarked, marking}
 use Rattle.sets.proofs.MaskLaws.{insert-gt, full-of, mem-full, above-lt, above-inj}
 use Rattle.sets.proofs.CountLaws.{size-full}
-use Rattle.sets.proofs.TableLaws.{marking-cases}
+use Rattle.marks.proofs.TableLaws.{marking-cases}
 use Rattle.orders.specs.Problem.{Problem}
 use Rattle.orders.specs.First.{FirstOf}
 use Rattle.orders.specs.Step.{With, Below, Ready, Runs, Dead}
-use Rattle.orders.specs.Walk.{isSeen, NextIs, Starting}
+use Rattle.placing.specs.Placing.{isSeen}
+use Rattle.orders.specs.Walk.{NextIs, Starting}
 use Rattle.orders.proofs.StepLaws.{Best, same-first, same-dead, dead-here}
 use Rattle.orders.proofs.TablesLaws.{with-insert, below-full}
 use Rattle.orders.proofs.TrailLaws.{placed, On, on-le, on-more, on-end, on-less, Full, trail-snoc, trail-init, Bests, trail-first}

@@ -1,7 +1,7 @@
 -- Where a walk stands, and what a step on and a step back do to it; the same for every walk. Assumes nothing.
 --     Stand         the walk stands at s, after the events of the path; what was tried at each set on the way leads to marked sets
 --     stand-start stand-on stand-back    the start, a step on, a step back
---     stand-left entered                 the last two as the code has them
+--     stand-left entered-at entered      the last two as the code has them
 --     left          how many sets are not marked: it falls with a step on
 use Prim.Native.Nat.{ℕ, suc, _+_, _-_, _/_, _%_, _^_, _<_, _≤_, min}
 use mathlib.Core.Path.{_≡_, refl, sym, ap, subst, _∙_}
@@ -19,13 +19,14 @@ use lib.Seq.{length-take-le, take-suc, take-suc-set}
 use Rattle.basis.proofs.BoolLaws.{false-of}
 use Rattle.sets.specs.Mask.{slots, mem, Has, insert, remove, full, above}
 use Rattle.sets.specs.Count.{count}
-use Rattle.sets.specs.Table.{isMarked, marking, bytesFor}
+use Rattle.marks.specs.Table.{isMarked, marking, bytesFor}
 use Rattle.sets.proofs.MaskLaws.{mem-full, insert-lt, insert-old, insert-new, remove-insert, above-lt}
 use Rattle.sets.proofs.CountLaws.{count-le, size-first}
-use Rattle.sets.proofs.TableLaws.{length-marking, drop-marking, marking-new, marking-old, place-within, marks-marking}
+use Rattle.marks.proofs.TableLaws.{length-marking, drop-marking, marking-new, marking-old, place-within, marks-marking}
 use Rattle.orders.specs.Problem.{Problem}
 use Rattle.orders.specs.Step.{Ready}
-use Rattle.orders.specs.Walk.{isSeen, Tried, NextIs, Entered, Starting}
+use Rattle.placing.specs.Placing.{isSeen, Entered}
+use Rattle.orders.specs.Walk.{Tried, NextIs, Starting}
 use Rattle.orders.proofs.TrailLaws.{placed, placed-snoc, Full, Trail, trail-snoc, trail-init, trail-last, trail-map, Readies, trail-lt, trail-size, trail-keeps}
 
 -- all that can be placed at s, up to e, leads to marked sets
@@ -231,6 +232,12 @@ module _ {P : Problem} {k : ℕ} {table₀ path₀ : List ℕ} (st : Starting P 
           (subst (λ (z : ℕ). Stand P k table₀ table path (remove s (getD path (depth - 1) 0)) (depth - 1) (z + 1)) (sym e) stand-back)
 
 -- what a step on gave, in the terms of the laws
+pub entered-at : {k s e depth : ℕ} {table path : List ℕ} {r : ℕ} {t p : List ℕ} → (k < slots) × (e < slots) × (depth < length path)
+    → Entered (k % slots) s (e % slots) depth table path r t p → Entered k s e depth table path r t p
+entered-at {k} {s} {e} {depth} {table} {path} {r} {t} {p} l n =
+    subst (λ (i : ℕ). Entered i s e depth table path r t p) (mod-eq-of-lt (l .0))
+    (subst (λ (i : ℕ). Entered (k % slots) s i depth table path r t p) (mod-eq-of-lt (l .1)) n)
+
 pub entered : {k s e depth : ℕ} {table path : List ℕ} {r : ℕ} {t p : List ℕ} (C : ℕ → List ℕ → List ℕ → Type 0) → Entered k s e depth table path r t p
     → C (insert s e) (marking table (above (insert s e) k)) (set path depth e) → C r t p
 entered C n h = rw (n .grown, n .marked, n .stored) h

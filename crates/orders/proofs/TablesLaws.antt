@@ -1,81 +1,33 @@
 -- The laws of specs/Tables.antt: the bridge from the problem on predicates to masks. Assumes nothing.
---     ready-of ready-within ready-unbarred    what can be placed, as the code tests it
---     readers-none readers-more writers-empty     the readers that have bars with v; none
---     writers-none writers-in writers-out     the writers that have bars with v, one after the other
---     left-start left-lowest left-next left-end    those of them that are placed, one after the other
+--     gathered                                what `gather` gives
+--     free-ready ready-free                   what can be placed, as the code tests it
 --     with-insert below-full                  a set with one event more, and the set of the inits, as numbers
-use Prim.Native.Nat.{ℕ, _+_, _*_, _^_, _<_, _≤_}
-use mathlib.Core.Path.{_≡_, refl, sym, ap, ap₂, subst, _∙_}
-use mathlib.Core.Bool.{Bool, true, _&&_, _||_}
-use mathlib.Core.Logic.{_⊎_, inl, inr, ⊎-elim}
+use Prim.Native.Nat.{ℕ, _<_, _≤_, min}
+use mathlib.Core.Path.{_≡_, sym, subst}
+use mathlib.Core.Logic.{⊎-elim}
 use mathlib.Core.List.{List}
 use native.Mathlib.Omega.{arith}
-use native.Mathlib.Decide.{ℕ-discrete}
-use lib.Bits.{bitAnd, bitOr, and-le-l}
-use lib.ListN.{getD}
-use Rattle.basis.proofs.BoolLaws.{not-both-ways, and-parts, bar-left as or-left, bar-right as or-right}
-use Rattle.sets.specs.Mask.{slots, mem, Has, Within, insert, remove, full, Lowest}
-use Rattle.sets.proofs.MaskLaws.{mem-lt, mem-and, mem-or, mem-empty, mem-full, remove-le, remove-old, remove-cases, insert-new, insert-old, insert-cases, full-has}
-use Rattle.orders.specs.Problem.{Problem}
+use lib.ListN.{length, getD}
+use Rattle.sets.specs.Mask.{slots, Has, insert, full}
+use Rattle.sets.proofs.MaskLaws.{mem-full, insert-new, insert-old, insert-cases, full-has}
+use Rattle.placing.specs.Placing.{Writers, Gathers, Free}
 use Rattle.orders.specs.Step.{With, Below, Ready}
-use Rattle.orders.specs.Tables.{barAt, tabled}
-use Rattle.orders.specs.Walk.{Unbarred, Readers, Writers}
-use Rattle.orders.proofs.FirstLaws.{Tri, below, same, above, tri}
+use Rattle.orders.specs.Tables.{tabled}
+use Rattle.orders.specs.Walk.{Gathered}
 use Rattle.orders.proofs.StepLaws.{Same}
 
-module _ (m : ℕ) (before bars : List ℕ) (s v : ℕ) where
-  pub ready-of : v < m → (Has s v → ⊥) → Within (getD before v 0) s → Unbarred m bars s v → Ready (tabled m before bars) (Has s) v
-  ready-of l f b u = record { event = l; fresh = f; after = λ a h. b a (h .1); clear = λ r w h g. u w (h .1) g r (h .2) }
+pub gathered : (m : ℕ) (bars ws ws′ : List ℕ) → m ≤ slots → slots ≤ length ws → Gathers (min m slots) bars ws ws′ → Gathered m bars ws′
+gathered m bars ws ws′ few room g =
+    let e : min m slots ≡ m = omega arith in record { each = λ v l. subst (λ (n : ℕ). Writers n bars v (getD ws′ v 0)) e (g .each v (omega arith) (omega arith)) }
 
-  pub ready-within : Ready (tabled m before bars) (Has s) v → Within (getD before v 0) s
-  ready-within r a h = r .after a (r .event, h)
+module _ {m : ℕ} {before bars writers : List ℕ} (all : Gathered m bars writers) {s v : ℕ} where
+  pub free-ready : v < m → Free before bars (getD writers v 0) s v → Ready (tabled m before bars) (Has s) v
+  free-ready l f =
+      record { event = l; fresh = f .fresh; after = λ a h. f .after a (h .1); clear = λ r w h g. f .clear w (all .each v l .all w r (h .1) (h .2)) g r (h .2) }
 
-  pub ready-unbarred : Ready (tabled m before bars) (Has s) v → Unbarred m bars s v
-  ready-unbarred r w l h x g = r .clear x w (r .event, l, g) h
-
--- ---- the writers that have bars with v, among the first j
-
-pub readers-none : (bars : List ℕ) (v : ℕ) → Readers 0 bars v 0
-readers-none bars v w r l h = absurd (omega arith)
-
-pub readers-more : (bars : List ℕ) (v j c : ℕ) → Readers j bars v c → Readers (j + 1) bars v (bitOr c (barAt bars v j))
-readers-more bars v j c have w r l h = mem-or c (barAt bars v j) r ∙ go (ℕ-discrete w j)
-  where
-    go : Dec (w ≡ j) → (mem c r || mem (barAt bars v j) r) ≡ true
-    go (yes e) = or-right (mem c r) (mem (barAt bars v j) r) (subst (λ (i : ℕ). Has (barAt bars v i) r) e h)
-    go (no e) = or-left (mem c r) (mem (barAt bars v j) r) (have w r (omega (arith, e)) h)
-
--- without a reader there is no writer
-pub writers-empty : (m : ℕ) (bars : List ℕ) (v c : ℕ) → m ≤ slots → Readers slots bars v c → c ≡ 0 → Writers m bars v 0
-writers-empty m bars v c few have z =
-    record {
-      only = λ w h. absurd (not-both-ways h (mem-empty w));
-      all = λ w r l h. absurd (not-both-ways (have w r (omega arith) h) (ap (λ (i : ℕ). mem i r) z ∙ mem-empty r));
-    }
-
-pub writers-none : (bars : List ℕ) (v : ℕ) → Writers 0 bars v 0
-writers-none bars v = record { only = λ w h. absurd (not-both-ways h (mem-empty w)); all = λ w r l h. absurd (omega arith) }
-
-module _ {bars : List ℕ} {j v c : ℕ} (have : Writers j bars v c) where
-  pub writers-in : Writers (j + 1) bars v (insert c j)
-  writers-in = record { only = λ w h. old w (insert-cases c j w h); all = λ w r l h. new w r l h (tri w j) }
-    where
-      old : (w : ℕ) → (w ≡ j) ⊎ Has c w → w < j + 1
-      old w (inl p) = omega arith
-      old w (inr h) = let q = have .only w h in omega arith
-
-      new : (w r : ℕ) → w < j + 1 → Has (barAt bars v w) r → Tri w j → Has (insert c j) w
-      new w r l h (below q) = insert-old c j w (have .all w r q h)
-      new w r l h (same q) = subst (λ (x : ℕ). Has (insert c j) x) (sym q) (insert-new c j)
-      new w r l h (above q) = absurd (omega arith)
-
-  pub writers-out : barAt bars v j ≡ 0 → Writers (j + 1) bars v c
-  writers-out z = record { only = λ w h. let q = have .only w h in omega arith; all = λ w r l h. new w r l h (tri w j) }
-    where
-      new : (w r : ℕ) → w < j + 1 → Has (barAt bars v w) r → Tri w j → Has c w
-      new w r l h (below q) = have .all w r q h
-      new w r l h (same q) = absurd (not-both-ways h (ap (λ (x : ℕ). mem (barAt bars v x) r) q ∙ ap (λ (x : ℕ). mem x r) z ∙ mem-empty r))
-      new w r l h (above q) = absurd (omega arith)
+  pub ready-free : Ready (tabled m before bars) (Has s) v → Free before bars (getD writers v 0) s v
+  ready-free r =
+      record { fresh = r .fresh; after = λ a h. r .after a (r .event, h); clear = λ w c g x h. r .clear x w (r .event, all .each v (r .event) .only w c, h) g }
 
 -- ---- sets as numbers
 
@@ -84,34 +36,3 @@ with-insert s e d = (insert-cases s e d, ⊎-elim (λ p. subst (λ (x : ℕ). Ha
 
 pub below-full : (k : ℕ) → Same (Has (full k)) (Below k)
 below-full k d = (full-has k d, mem-full k d)
-
--- ---- the writers of v's bars that are placed, and of which nothing is known yet
-
-pub record Left (bars : List ℕ) (writers s v left : ℕ) : Type 0 where
-  pub width : left < 2 ^ slots
-  pub of : (w : ℕ) → Has left w → Has writers w × Has s w
-  pub done : (w : ℕ) → Has writers w → Has s w → Has left w ⊎ Within (barAt bars v w) s
-
-pub left-start : (bars : List ℕ) (writers s v : ℕ) → writers < 2 ^ slots → Left bars writers s v (bitAnd writers s)
-left-start bars writers s v l =
-    record {
-      width = let q = and-le-l writers s in omega arith;
-      of = λ w h. and-parts (mem writers w) (mem s w) (sym (mem-and writers s w) ∙ h);
-      done = λ w a b. inl (mem-and writers s w ∙ ap₂ (λ (x y : Bool). x && y) a b);
-    }
-
-module _ {bars : List ℕ} {writers s v left : ℕ} (have : Left bars writers s v left) where
-  pub left-lowest : {w : ℕ} → Lowest left w → (left ≡ 0 → ⊥) → Has left w × (w < slots)
-  left-lowest {w} low f = let h = low .member (omega (arith, f)) in (h, mem-lt slots left w (have .width) h)
-
-  pub left-next : (w : ℕ) → Within (barAt bars v w) s → Left bars writers s v (remove left w)
-  left-next w i =
-      record {
-        width = let q = remove-le left w in let l = have .width in omega arith;
-        of = λ d h. have .of d (remove-old left w d h);
-        done = λ d a b. ⊎-elim (λ h. ⊎-elim (λ p. inr (subst (λ (x : ℕ). Within (barAt bars v x) s) (sym p) i)) inl (remove-cases left w d h)) inr (have .done d a b);
-      }
-
-  pub left-end : {m : ℕ} → Writers m bars v writers → left ≡ 0 → Unbarred m bars s v
-  left-end writes z w l h r b =
-      ⊎-elim (λ g. absurd (not-both-ways g (ap (λ (x : ℕ). mem x w) z ∙ mem-empty w))) (λ i. i r b) (have .done w (writes .all w r l b) h)

@@ -11,7 +11,7 @@ use mathlib.Core.List.{List, _++_}
 use lib.ListN.{length, drop}
 use Rattle.basis.specs.Test.{from}
 use Rattle.sets.specs.Mask.{slots}
-use Rattle.sets.specs.Table.{bytesFor, cleared}
+use Rattle.marks.specs.Table.{bytesFor, cleared}
 use Rattle.orders.specs.Problem.{Problem}
 use Rattle.orders.specs.First.{FirstOf}
 use Rattle.orders.specs.Step.{Below, Runs, Dead}

@@ -5,6 +5,5 @@ pub mod Step
 pub mod Inits
 pub mod Tables
 pub mod Answer
-pub mod Reachable
 pub mod Walk
 pub mod Promises

@@ -2,20 +2,17 @@
 --     FirstIsFirst     what `first` finds is the first of all total orders that meet the problem; where it finds none, none does
 --     FirstBegins      the first order begins with the inits, in the order of their numbers
 --     PossibleIsMeets  what `possible` says is whether some total order meets the problem
---     FirstAgrees PossibleAgrees CountAgrees    two conforming answers are equal, buffers too
+--     FirstAgrees PossibleAgrees    two conforming answers are equal, buffers too
 --     StepsAreOrders   one event at a time and whole orders say the same
 --     DeadEnds         a set from which every step leads to a dead set is dead
 --     FewerKeep        fewer bars and fewer constraints keep an order
---     CountAtMost      the number of reachable sets is at most 2^n
-use Prim.Native.Nat.{ℕ, _-_, _^_, _<_, _≤_}
+use Prim.Native.Nat.{ℕ, _<_, _≤_}
 use mathlib.Core.Path.{_≡_}
 use mathlib.Core.Bool.{Bool, true, false}
 use mathlib.Core.Logic.{_↔_}
 use mathlib.Core.List.{List}
 use lib.ListN.{length, take, drop}
 use Rattle.basis.specs.Test.{from}
-use Rattle.sets.specs.Mask.{full}
-use Rattle.orders.specs.declared.Count.{Count}
 use Rattle.orders.specs.Problem.{Problem}
 use Rattle.orders.specs.Order.{Meets}
 use Rattle.orders.specs.First.{FirstOf}
@@ -23,7 +20,6 @@ use Rattle.orders.specs.Step.{With, Below, Ready, Runs, Dead}
 use Rattle.orders.specs.Inits.{Begins}
 use Rattle.orders.specs.Tables.{tabled}
 use Rattle.orders.specs.Answer.{Fits, Told, Answered}
-use Rattle.orders.specs.Reachable.{Counted, Tallied}
 
 -- 01: "Of all such orders the first .. is reported."
 abbrev pub FirstIsFirst : Type 0
@@ -52,11 +48,6 @@ abbrev pub PossibleAgrees : Type 0
 PossibleAgrees =
     (k m : ℕ) (before bars scratch : List ℕ) (r q : Bool) (s t : List ℕ) → Told k m before bars scratch r s → Told k m before bars scratch q t → (r ≡ q) × (s ≡ t)
 
-abbrev pub CountAgrees : Type 0
-CountAgrees =
-    (k m : ℕ) (before bars scratch : List ℕ) (limit : ℕ) (r q : Count) (s t : List ℕ) → Tallied k m before bars scratch limit r s
-    → Tallied k m before bars scratch limit q t → (r ≡ q) × (s ≡ t)
-
 abbrev pub StepsAreOrders : Type 1
 StepsAreOrders = (P : Problem) (k : ℕ) → Begins P k → (l : List ℕ) → Meets P l ↔ Runs P (λ d. ⊥) l
 
@@ -69,7 +60,3 @@ abbrev pub FewerKeep : Type 1
 FewerKeep =
     (P Q : Problem) → Q .events ≡ P .events → ((a b : ℕ) → Q .Before a b → P .Before a b) → ((r w v : ℕ) → Q .Bar r w v → P .Bar r w v)
     → (l : List ℕ) → Meets P l → Meets Q l
-
--- 02 §9: "The number is at most 2^n."
-abbrev pub CountAtMost : Type 1
-CountAtMost = (P : Problem) (k c : ℕ) → k ≤ P .events → Counted P (full k) c → c ≤ 2 ^ (P .events - k)

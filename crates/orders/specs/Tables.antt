@@ -1,15 +1,12 @@
 -- The problem that two tables of masks state. Laws: proofs/TablesLaws.antt. Assumes nothing.
 --     tabled m before bars     the problem with m events: before[b] is the mask of the a that have to come before b, and
 --                              bars[v * 32 + w] that of the r with a bar (r, w, v)
---     barAt bars v w           the mask of the r with a bar (r, w, v)
-use Prim.Native.Nat.{ℕ, _+_, _*_, _<_}
+use Prim.Native.Nat.{ℕ, _<_}
 use mathlib.Core.List.{List}
 use lib.ListN.{getD}
-use Rattle.sets.specs.Mask.{slots, Has}
+use Rattle.sets.specs.Mask.{Has}
+use Rattle.placing.specs.Placing.{barAt}
 use Rattle.orders.specs.Problem.{Problem}
-
-abbrev pub barAt : List ℕ → ℕ → ℕ → ℕ
-barAt bars v w = getD bars (v * slots + w) 0
 
 abbrev pub tabled : ℕ → List ℕ → List ℕ → Problem
 tabled m before bars =

@@ -3,7 +3,7 @@
 use mathlib.Core.Path.{_≡_, sym, ap, _∙_}
 use mathlib.Core.List.{List}
 use Prim.Native.Nat.{ℕ}
-use Rattle.orders.proofs.AnswerLaws.{tallied-unique}
+use Rattle.reach.proofs.TalliedLaws.{tallied-unique}
 use Rattle.orders_c.specs.Exported.{numberOf, Exported}
 
 pub exported-unique : (k m : ℕ) (before bars scratch : List ℕ) (limit r q : ℕ) (a b : List ℕ) → Exported k m before bars scratch limit r a

@@ -4,9 +4,9 @@
 use Prim.Native.Nat.{ℕ}
 use mathlib.Core.Path.{_≡_}
 use mathlib.Core.List.{List}
-use Rattle.orders.specs.declared.Count.{Count}
-use Rattle.orders.specs.declared.Count.the-variants.{All, Over}
-use Rattle.orders.specs.Reachable.{Tallied}
+use Rattle.reach.specs.declared.Count.{Count}
+use Rattle.reach.specs.declared.Count.the-variants.{All, Over}
+use Rattle.reach.specs.Reachable.{Tallied}
 
 abbrev pub numberOf : Count → ℕ
 numberOf (All c) = c

@@ -2,7 +2,7 @@
 // `requires`; tables are arrays, so that their lengths are fixed.
 ghost use Rattle.orders.specs.Answer.{Told, Answered};
 ghost use Rattle.orders_c.specs.Exported.{Exported};
-use orders::Count;
+use reach::Count;
 
 #[no_mangle]
 pub extern "C" fn orders_first(
@@ -43,7 +43,7 @@ pub extern "C" fn orders_count_sets(
 ) -> usize
     ensures { λ r. ⌜ Exported inits events (now (before .entry)) (now (bars .entry)) (now (scratch .entry)) limit r (now (scratch .exit)) ⌝ }
 {
-    let answer = orders::count_sets(inits, events, before, bars, scratch, limit);
+    let answer = reach::count_sets(inits, events, before, bars, scratch, limit);
     match answer {
         Count::All(n) => n,
         Count::Over => 18446744073709551615,

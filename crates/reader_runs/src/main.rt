@@ -1,18 +1,21 @@
 // The reader on any number of sheets from standard input, each after its length in two bytes; a line for each: the refusal, or 'read' with the
 // agents, the memory size, the inits, the events, the rows and the pairs. A test; stdin and stdout come from tests/reader.
-ghost use Prim.Native.Nat.{_≤_};
+ghost use Prim.Native.Nat.{_≤_, _<_};
 ghost use lib.ListN.{length};
+ghost use Rattle.format.specs.Limits.{maxBytes};
+use format::MAX_BYTES;
+use libc::STDERR_FILENO;
 use libc::STDIN_FILENO;
 use libc::STDOUT_FILENO;
 use sheet::Outcome;
 use sheet::Reading;
 
-// A length of more than 4,097 bytes is taken for 4,097: too long all the same.
-fn length_of(high: u8, low: u8) -> usize
-    ensures { λ r. ⌜ r ≤ 4097 ⌝ }
-{
-    let n = (high as usize) * 256 + low as usize;
-    if n < 4097 { n } else { 4097 }
+// The longest sheet that is read, one over the longest that there is: what is longer is no test of this program's.
+const SPACE: usize = MAX_BYTES + 1;
+
+// A length of two bytes.
+fn length_of(high: u8, low: u8) -> usize {
+    (high as usize) * 256 + low as usize
 }
 
 fn number(n: u64) {
@@ -59,7 +62,7 @@ fn sheet_of(space: &mut [u8], n: usize) -> bool
 
 // One sheet: read and reported; false where the input ends.
 fn one(space: &mut [u8]) -> bool
-    requires { ⌜ 4097 ≤ length (now space) ⌝ }
+    requires { ⌜ maxBytes < length (now space) ⌝ }
 {
     let mut head = [0u8; 2];
     let got = io::read_full(STDIN_FILENO, &mut head);
@@ -67,11 +70,18 @@ fn one(space: &mut [u8]) -> bool
         return false;
     }
     let n = length_of(head[0], head[1]);
+    if SPACE < n {
+        io::write_all(
+            STDERR_FILENO,
+            b"reader_runs: a sheet of more than 4,097 bytes; nothing behind it is read\n",
+        );
+        return false;
+    }
     sheet_of(space, n)
 }
 
 fn all(space: &mut [u8])
-    requires { ⌜ 4097 ≤ length (now space) ⌝ }
+    requires { ⌜ maxBytes < length (now space) ⌝ }
 {
     for _ in 0..1000000usize {
         if !one(space) {
@@ -81,6 +91,6 @@ fn all(space: &mut [u8])
 }
 
 fn main() {
-    let mut space = [0u8; 4097];
+    let mut space = [0u8; SPACE];
     all(&mut space);
 }

@@ -1,6 +1,6 @@
 -- The promises of specs/Demands.antt hold. Assumes nothing.
 use Rattle.report.specs.Demands.{Agree, LongEnough, Readable}
-use Rattle.report.proofs.DecimalLaws.{decimal-unique}
+use Rattle.puts.proofs.DecimalLaws.{decimal-unique}
 use Rattle.report.proofs.LineLaws.{line-bound}
 use Rattle.report.proofs.LinedLaws.{lined-unique}
 

@@ -1,10 +1,5 @@
 -- The laws of specs/Line.antt.
---     numbered-length   a number of 32 bits takes at most 11 bytes with its space
---     byte-length       a byte takes at most 4
---     events-more       one event more of a list
---     events-all        all of a list
---     events-sum        its length is the sum of both
---     events-length     an event, with all before it, is no longer than all of the list
+--     broken-near       the head of a broken line is at most 64 bytes
 --     line-sum          the line's length is that of its parts
 --     line-some         a line has at least one byte
 --     line-bound        the line of an answer of the code, with an order of bytes, is at most 34 + 4 * n bytes for n events
@@ -24,40 +19,10 @@ use Rattle.answer.specs.declared.Answer.{Answer}
 use Rattle.answer.specs.declared.Answer.the-variants.{Refused, Broken, Consistent}
 use Rattle.answer.specs.NameOf.{namesOf}
 use Rattle.answer.specs.Fit.{Below, FourBelow, Fits}
-use Rattle.report.specs.Text.{text}
-use Rattle.report.specs.Line.{numbered, nameText, namesText, headOf, told, eventsText, lineOf}
-use Rattle.report.proofs.DecimalLaws.{decimal-length}
-
--- ---- numbers
-
-pub numbered-length : (n : ℕ) → n < 2 ^ 32 → length (numbered n) ≤ 11
-numbered-length n h = omega (arith, decimal-length 9 n (omega arith))
-
-pub byte-length : (n : ℕ) → n < 256 → length (numbered n) ≤ 4
-byte-length n h = omega (arith, decimal-length 2 n (omega arith))
-
--- ---- events
-
-events-append : (a b : List ℕ) → eventsText (a ++ b) ≡ eventsText a ++ eventsText b
-events-append [] b = refl
-events-append (e ∷ a) b =
-    ap (λ (l : List ℕ). numbered e ++ l) (events-append a b) ∙ sym (append-assoc (numbered e) (eventsText a) (eventsText b))
-
-pub events-more : (l : List ℕ) (i : ℕ) → i < length l → eventsText (take (i + 1) l) ≡ eventsText (take i l) ++ numbered (getD l i 0)
-events-more l i h =
-    rw (add-one, take-suc l i 0 h, events-append (take i l) (getD l i 0 ∷ []), append-nil (numbered (getD l i 0)))
-
-pub events-all : (l : List ℕ) (i : ℕ) → length l ≤ i → eventsText (take i l) ≡ eventsText l
-events-all l i h = ap eventsText (take-all i l h)
-
-pub events-sum : (l : List ℕ) (i : ℕ) → i < length l → length (eventsText (take (i + 1) l)) ≡ length (eventsText (take i l)) + length (numbered (getD l i 0))
-events-sum l i h = ap length (events-more l i h) ∙ length-append (eventsText (take i l)) (numbered (getD l i 0))
-
-pub events-length : (l : List ℕ) (i : ℕ) → i < length l → length (eventsText (take i l)) + length (numbered (getD l i 0)) ≤ length (eventsText l)
-events-length l i h =
-    let whole = ap (λ (m : List ℕ). length (eventsText m)) (take-append-drop (i + 1) l) in
-    let parts = ap length (events-append (take (i + 1) l) (drop (i + 1) l)) ∙ length-append (eventsText (take (i + 1) l)) (eventsText (drop (i + 1) l)) in
-    omega (arith, events-sum l i h)
+use Rattle.puts.specs.Text.{text}
+use Rattle.puts.specs.Numbers.{numbered, eventsText}
+use Rattle.puts.proofs.NumbersLaws.{numbered-length, byte-length}
+use Rattle.report.specs.Line.{nameText, namesText, headOf, told, lineOf}
 
 -- ---- the line
 
@@ -68,6 +33,11 @@ line-sum x order =
 
 pub line-some : (x : Answer) (order : List ℕ) → 0 < length (lineOf x order)
 line-some x order = omega (arith, line-sum x order)
+
+-- the code's own bound, with numbers of 32 bits
+pub broken-near : (n : ℕ) (f : Four) → length (numbered n) ≤ 11 → length (namesText f) ≤ 44 → length (text "broken" ++ numbered n ++ namesText f) ≤ 64
+broken-near n f h k =
+    omega (arith, h, k, length-append (text "broken" ++ numbered n) (namesText f), length-append (text "broken") (numbered n))
 
 name-bound : (n : Name) → Below 256 n → length (nameText n) ≤ 4
 name-bound (Number k) h = byte-length k h

@@ -1,4 +1,5 @@
 -- The laws of specs/Lined.antt.
+--     within-put      what is put within the room there is
 --     lined-parts     head, events and newline, each put after the other, are the line
 --     lined-written   a line that was put, where there was room
 --     lined-short     nothing was put, where there was none
@@ -17,16 +18,21 @@ use lib.Dec.{leb}
 use lib.ListN.{length, getD}
 use Rattle.answer.specs.declared.Answer.{Answer}
 use Rattle.answer.specs.Fit.{Fits}
-use Rattle.report.specs.Line.{headOf, told, eventsText, lineOf}
-use Rattle.report.specs.Put.{Put}
+use Rattle.puts.specs.Numbers.{eventsText}
+use Rattle.report.specs.Line.{headOf, told, lineOf}
+use Rattle.puts.specs.Put.{Put, Puts}
+use Rattle.report.specs.Within.{PutsWithin}
 use Rattle.report.specs.Lined.{Lined}
-use Rattle.report.proofs.NumberLaws.{less-or-not}
-use Rattle.report.proofs.PutLaws.{put-then, put-unique}
+use Rattle.puts.proofs.NumberLaws.{less-or-not}
+use Rattle.puts.proofs.PutLaws.{put-unique, puts-then, puts-put}
 use Rattle.report.proofs.LineLaws.{line-sum, line-bound}
 
-pub lined-parts : (x : Answer) (order : List ℕ) {e f g h : List ℕ} {m n r : ℕ} → Put (headOf x) 0 m e f → Put (eventsText (told x order)) m n f g → Put (10 ∷ []) n r g h → Put (lineOf x order) 0 r e h
+pub within-put : {most : ℕ} {p e f : List ℕ} {m : ℕ} → most ≤ length e → PutsWithin most p 0 m e f → Put p 0 m e f
+within-put h w = let n = w .near in puts-put (omega (arith, n)) (w .put)
+
+pub lined-parts : (x : Answer) (order : List ℕ) {e f g h : List ℕ} {m n r : ℕ} → length (lineOf x order) ≤ length e → Puts (headOf x) 0 m e f → Puts (eventsText (told x order)) m n f g → Puts (10 ∷ []) n r g h → Put (lineOf x order) 0 r e h
 unfolding lineOf
-lined-parts x order a b c = put-then (put-then a b) c
+lined-parts x order l a b c = puts-put (omega (arith, l)) (puts-then (puts-then a b) c)
 
 pub lined-written : (x : Answer) (order : List ℕ) {e f : List ℕ} {r : ℕ} → length (lineOf x order) ≤ length e → Put (lineOf x order) 0 r e f → Lined x order e r f
 lined-written x order fits p =

@@ -9,7 +9,7 @@ use Prim.Native.Nat.{ℕ, _+_, _*_, _≤_, _<_}
 use lib.ListN.{length, getD}
 use Rattle.answer.specs.declared.Answer.{Answer}
 use Rattle.answer.specs.Fit.{Fits}
-use Rattle.report.specs.Decimal.{decimal}
+use Rattle.puts.specs.Decimal.{decimal}
 use Rattle.report.specs.Line.{lineOf}
 use Rattle.report.specs.Lined.{Lined}
 

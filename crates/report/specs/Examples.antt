@@ -10,7 +10,7 @@ use Rattle.answer.specs.declared.Names.the-variants.{Row, Event, Between, Torn,
 use Rattle.answer.specs.declared.Settled.the-variants.{Orderly, Unsettled}
 use Rattle.answer.specs.declared.Answer.{Answer}
 use Rattle.answer.specs.declared.Answer.the-variants.{Refused, Broken, Consistent}
-use Rattle.report.specs.Text.{text}
+use Rattle.puts.specs.Text.{text}
 use Rattle.report.specs.Line.{lineOf}
 
 pub record Example : Type 0 where

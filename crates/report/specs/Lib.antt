@@ -1,7 +1,5 @@
-pub mod Text
-pub mod Decimal
 pub mod Line
-pub mod Put
+pub mod Within
 pub mod Lined
 pub mod Examples
 pub mod Demands

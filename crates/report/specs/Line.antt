@@ -1,11 +1,9 @@
 -- The report line (01, What comes back), as bytes. Laws: proofs/LineLaws.antt.
---     numbered n        a space and the decimal number n
 --     nameText n        a space and the name n, `-` for none
 --     namesText f       four names
 --     refusedText n p, brokenText n names, settledText s    the lines of each kind, up to where the order begins
 --     headOf x          the line of x up to where the order begins
 --     told x order      the events that x's line tells: the order where x is consistent, else none
---     eventsText l      each event of l
 --     lineOf x order    the line of x with the order's event numbers
 -- Assumes nothing.
 use Prim.Native.Nat.{ℕ}
@@ -19,12 +17,8 @@ use Rattle.answer.specs.declared.Settled.the-variants.{Orderly, Unsettled}
 use Rattle.answer.specs.declared.Answer.{Answer}
 use Rattle.answer.specs.declared.Answer.the-variants.{Refused, Broken, Consistent}
 use Rattle.answer.specs.NameOf.{namesOf}
-use Rattle.report.specs.Text.{text}
-use Rattle.report.specs.Decimal.{decimal}
-
--- 01: "decimal numbers", "single spaces"
-abbrev pub numbered : ℕ → List ℕ
-numbered n = text " " ++ decimal n
+use Rattle.puts.specs.Text.{text}
+use Rattle.puts.specs.Numbers.{numbered, eventsText}
 
 -- 01: "`-` for none"
 abbrev pub nameText : Name → List ℕ
@@ -57,10 +51,6 @@ abbrev pub told : Answer → List ℕ → List ℕ
 told (Refused n p) order = []
 told (Broken n names) order = []
 told (Consistent s) order = order
-
-abbrev pub eventsText : List ℕ → List ℕ
-eventsText [] = []
-eventsText (e ∷ l) = numbered e ++ eventsText l
 
 -- 01: "one line made of the fixed words of the report line and decimal numbers", "one newline"
 unfoldable pub lineOf : Answer → List ℕ → List ℕ

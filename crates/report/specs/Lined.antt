@@ -7,7 +7,7 @@ use mathlib.Core.List.{List}
 use lib.ListN.{length, take}
 use Rattle.answer.specs.declared.Answer.{Answer}
 use Rattle.report.specs.Line.{lineOf}
-use Rattle.report.specs.Put.{Put}
+use Rattle.puts.specs.Put.{Put}
 
 pub record Lined (x : Answer) (order entry : List ℕ) (r : ℕ) (exit : List ℕ) : Type 0 where
   pub size : length exit ≡ length entry

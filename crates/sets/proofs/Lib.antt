@@ -1,5 +1,4 @@
 pub mod TellsLaws
 pub mod MaskLaws
+pub mod RestLaws
 pub mod CountLaws
-pub mod TableLaws
-pub mod ClosureLaws

@@ -1,6 +1,3 @@
 pub mod Tells
 pub mod Mask
 pub mod Count
-pub mod Table
-pub mod Closure
-pub mod Sweep

@@ -9,9 +9,10 @@
 --     full n        the set of all numbers below n
 --     above s k     the members from k up, each k lower
 --     Lowest s r    r is the least member of s, or `slots` where s is empty
+--     Rest s from n r    r has the numbers from `from` on, below n, that are not in s
 use mathlib.Core.Path.{_≡_}
 use mathlib.Core.Bool.{Bool, true, false}
-use Prim.Native.Nat.{ℕ, _+_, _-_, _*_, _/_, _%_, _^_, _<_}
+use Prim.Native.Nat.{ℕ, _+_, _-_, _*_, _/_, _%_, _^_, _<_, _≤_}
 use lib.Dec.{eqb}
 
 abbrev pub slots : ℕ
@@ -47,3 +48,7 @@ pub record Lowest (s r : ℕ) : Type 0 where
   pub member : 0 < s → Has s r
   pub least : (d : ℕ) → d < r → mem s d ≡ false
   pub none : s ≡ 0 → r ≡ slots
+
+pub record Rest (s from n r : ℕ) : Type 0 where
+  pub only : (d : ℕ) → Has r d → (from ≤ d) × (d < n) × (mem s d ≡ false)
+  pub all : (d : ℕ) → from ≤ d → d < n → mem s d ≡ false → Has r d

@@ -5,21 +5,19 @@
 --     partner-start, partner-hit, partner-end     a loop over those to try
 --     settled-found, settled-none    what the search answers
 use mathlib.Core.Path.{_≡_, sym, ap, _∙_}
-use mathlib.Core.Bool.{Bool, true, false, cond, not}
+use mathlib.Core.Bool.{Bool, true, false, cond}
 use mathlib.Core.List.{List}
-use Prim.Native.Nat.{ℕ, _+_, _-_, _^_, _<_, _≤_, min}
+use Prim.Native.Nat.{ℕ, _+_, _<_, _≤_, min}
 use native.Mathlib.Omega.{arith}
-use native.Mathlib.Decide.{decLt}
 use borrow.Author.Tests.{lt-ltb, le-ltb, ltb-true}
-use lib.Bits.{bitAnd}
 use lib.Dec.{ltb}
 use lib.ListN.{getD}
 use Rattle.basis.specs.Test.{_and_, _or_, non}
-use Rattle.basis.proofs.BoolLaws.{and-holds, and-fails, and-both, non-holds, and-assoc, non-fails, amp-and, not-non, false-of}
+use Rattle.basis.proofs.BoolLaws.{and-holds, and-fails, and-both, non-holds, and-assoc, non-fails, bool-ext, false-of, not-both-ways}
 use Rattle.format.specs.declared.Shape.{Shape}
 use Rattle.format.specs.Shape.{writes, overlap, bothSc}
-use Rattle.sets.specs.Mask.{slots, mem, full, Lowest}
-use Rattle.sets.proofs.MaskLaws.{mem-diff, mem-full, full-has, lt-of-members, ext-all}
+use Rattle.sets.specs.Mask.{slots, mem, Lowest, Rest}
+use Rattle.sets.proofs.MaskLaws.{lt-of-members, ext-all}
 use Rattle.answer.specs.declared.Settled.the-variants.{Orderly, Unsettled}
 use Rattle.cells.specs.First.{firstOf}
 use Rattle.cells.specs.Walk.{picked}
@@ -61,41 +59,24 @@ module _ (t succ : List ℕ) (e d : ℕ) where
   open-is = and-assoc (ltb e d) (non (mem (getD succ e 0) d)) (freeIn t succ e d)
 
 -- the mask of those to try
-module _ (row n e : ℕ) (few : n ≤ slots) (at : e < slots) (w : row < 2 ^ slots) where
-  full-width : (k : ℕ) → k ≤ slots → full k < 2 ^ slots
-  full-width k h = lt-of-members slots (full k) (λ i g. let z = full-has k i g in omega arith)
+pub ahead-is : (row n e r : ℕ) → Rest row (e + 1) n r → r ≡ picked n (aheadIn row e)
+unfolding aheadIn
+ahead-is row n e r h = ext-all r (picked n (aheadIn row e)) (λ d. bool-ext (mem r d) (mem (picked n (aheadIn row e)) d) (one d) (two d))
+  where
+    one : (d : ℕ) → mem r d ≡ true → mem (picked n (aheadIn row e)) d ≡ true
+    one d g =
+        let w = h .only d g in
+        mem-picked n (aheadIn row e) d
+        ∙ and-holds (ltb d n) _ (lt-ltb d n (w .1))
+        ∙ and-holds (ltb e d) _ (lt-ltb e d (let l = w .0 in omega (arith, l)))
+        ∙ non-holds (mem row d) (w .2)
 
-  in-full : (k d : ℕ) → Dec (d < k) → mem (full k) d ≡ ltb d k
-  in-full k d (yes l) = mem-full k d l ∙ sym (lt-ltb d k l)
-  in-full k d (no l) = false-of _ (λ g. let z = full-has k d g in absurd (omega (arith, l))) ∙ sym (le-ltb d k (omega (arith, l)))
-
-  past-full : (d : ℕ) → Dec (e < d) → non (mem (full (e + 1)) d) ≡ ltb e d
-  past-full d (yes l) = non-holds _ (false-of _ (λ g. let z = full-has (e + 1) d g in absurd (omega arith))) ∙ sym (lt-ltb e d l)
-  past-full d (no l) = non-fails _ (mem-full (e + 1) d (omega (arith, l))) ∙ sym (le-ltb e d (omega (arith, l)))
-
-  apart : (a b d : ℕ) → a < 2 ^ slots → b < 2 ^ slots → mem (bitAnd a (2 ^ slots - 1 - b)) d ≡ (mem a d and non (mem b d))
-  apart a b d h k = mem-diff slots a b d h k ∙ amp-and (mem a d) (not (mem b d)) ∙ ap (λ (x : Bool). mem a d and x) (not-non (mem b d))
-
-  abbrev later : ℕ
-  later = bitAnd (full n) (2 ^ slots - 1 - full (e + 1))
-
-  later-mem : (d : ℕ) → mem later d ≡ (ltb d n and ltb e d)
-  later-mem d =
-      apart (full n) (full (e + 1)) d (full-width n few) (full-width (e + 1) (omega arith))
-      ∙ ap (λ (x : Bool). x and non (mem (full (e + 1)) d)) (in-full n d (decLt d n))
-      ∙ ap (λ (x : Bool). ltb d n and x) (past-full d (decLt e d))
-
-  later-width : later < 2 ^ slots
-  later-width = lt-of-members slots later (λ d g. let l = ltb-true d n (and-both (ltb d n) (ltb e d) (sym (later-mem d) ∙ g) .0) in omega arith)
-
-  pub ahead-is : bitAnd later (2 ^ slots - 1 - row) ≡ picked n (aheadIn row e)
-  unfolding aheadIn
-  ahead-is =
-      ext-all (bitAnd later (2 ^ slots - 1 - row)) (picked n (aheadIn row e))
-      (λ d. apart later row d later-width w
-      ∙ ap (λ (x : Bool). x and non (mem row d)) (later-mem d)
-      ∙ and-assoc (ltb d n) (ltb e d) (non (mem row d))
-      ∙ sym (mem-picked n (aheadIn row e) d))
+    two : (d : ℕ) → mem (picked n (aheadIn row e)) d ≡ true → mem r d ≡ true
+    two d g =
+        let w = and-both (ltb d n) _ (sym (mem-picked n (aheadIn row e) d) ∙ g) in
+        let v = and-both (ltb e d) (non (mem row d)) (w .1) in
+        let l = ltb-true e d (v .0) in
+        h .all d (omega (arith, l)) (ltb-true d n (w .0)) (false-of _ (λ y. not-both-ways (v .1) (non-fails (mem row d) y)))
 
 -- a loop over those to try, of which `left` has the rest
 pub partner-start : (t succ : List ℕ) (n e : ℕ) → n ≤ slots → Left (freeIn t succ e) (picked n (aheadIn (getD succ e 0) e)) (picked n (aheadIn (getD succ e 0) e))

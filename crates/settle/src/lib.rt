@@ -8,9 +8,8 @@ ghost use mathlib.Core.Path.{_≡_};
 ghost use Prim.Native.Nat.{_%_, min};
 ghost use Rattle.sets.specs.Mask.{slots};
 ghost use Rattle.cells.specs.First.{firstOf};
-ghost use Rattle.cells.specs.Walk.{picked};
 ghost use Rattle.settle.specs.Settle.{clashing, clashIn, openIn, settledIn};
-ghost use Rattle.settle.specs.steps.Ahead.{aheadIn, freeIn};
+ghost use Rattle.settle.specs.steps.Ahead.{freeIn};
 
 // Do two accesses want an order: they share a byte, one writes, and they are not both sc with equal ranges?
 fn clash(a: Shape, b: Shape) -> bool
@@ -41,13 +40,6 @@ fn clashes(t: &[u8; COLUMNS], e: usize, d: usize) -> bool
     clash(a, f) | (clash(b, c) | clash(b, f))
 }
 
-// The events below n, above e, that are not in e's row: e does not happen before them. n counts up to the slots.
-fn ahead(row: u32, n: usize, e: usize) -> u32
-    ensures { λ r. ⌜ r ≡ picked (min n slots) (aheadIn row (e % slots)) ⌝ }
-{
-    sets::full(n) & !sets::full(e % SLOTS + 1) & !row
-}
-
 // Are e and d, of which e does not happen before d, unsettled?
 fn loose(t: &[u8; COLUMNS], succ: &[u32; SLOTS], e: usize, d: usize) -> bool
     ensures { λ r. ⌜ r ≡ freeIn (now (t .entry)) (now (succ .entry)) (e % slots) (d % slots) ⌝ }
@@ -62,7 +54,8 @@ fn loose(t: &[u8; COLUMNS], succ: &[u32; SLOTS], e: usize, d: usize) -> bool
 fn partner(t: &[u8; COLUMNS], succ: &[u32; SLOTS], n: usize, e: usize) -> usize
     ensures { λ r. ⌜ r ≡ firstOf (openIn (now (t .entry)) (now (succ .entry)) (e % slots)) (min n slots) ⌝ }
 {
-    let mut left = ahead(succ[e % SLOTS], n, e);
+    // those behind e that it does not happen before
+    let mut left = sets::rest(succ[e % SLOTS], e % SLOTS + 1, n);
     while left != 0 {
         let d = sets::lowest(left);
         let hit = loose(t, succ, e, d);

@@ -1,4 +1,4 @@
--- The laws of specs/Between.antt: the counts with a field taken stand for the state behind it; the loop over the fields. Assumes nothing.
+-- The laws of specs/steps/Between.antt: the counts with a field taken stand for the state behind it; the loop over the fields. Assumes nothing.
 --     ready-next, event-few, row-few, pair-few     what the code needs to take a field
 --     head-taken, event-taken, row-taken, pair-taken     a field taken, by its tag
 --     Turn, turn-start, turn-end, turn-fault, turn-ready, turn-next     the loop's invariant
@@ -32,7 +32,7 @@ use Rattle.entries.specs.declared.Counts.{Counts}
 use Rattle.entries.specs.Entries.{spaced, eventAt, rowAt, pairAt, eventsOn, rowsOn, pairsOn, eventsIn}
 use Rattle.entries.proofs.EntriesLaws.{events-count, spaced-more}
 use Rattle.sheet.specs.Handed.{blankCounts, blankPlaces}
-use Rattle.sheet.specs.Between.{view, Counted, Between, Ready, Advanced, withHead, withEvent, withRow, withPair, Through}
+use Rattle.sheet.specs.steps.Between.{view, Counted, Between, Ready, Advanced, withHead, withEvent, withRow, withPair, Through}
 use Rattle.sheet.proofs.TakenLaws.{value-event, value-row, value-pair}
 
 -- ---- lists, one thing more

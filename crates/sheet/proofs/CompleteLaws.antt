@@ -18,7 +18,7 @@ use Rattle.entries.specs.Entries.{execution}
 use Rattle.entries.proofs.EntriesLaws.{events-count}
 use Rattle.sheet.specs.declared.Outcome.{Outcome}
 use Rattle.sheet.specs.Handed.{Laid, Handed, HandedWhole}
-use Rattle.sheet.specs.Between.{view, Counted, Through, refusal}
+use Rattle.sheet.specs.steps.Between.{view, Counted, Through, refusal}
 
 -- what a whole sheet's counts and places are
 pub laid-of : (s : List ℕ) (last : ℕ) (x : Counts) (at : List ℕ) → Through s last x at → (last ≡ 0 → ⊥) → Laid s x at

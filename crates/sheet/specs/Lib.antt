@@ -1,2 +1,2 @@
 pub mod Handed
-pub mod Between
+pub mod steps

@@ -7,7 +7,7 @@ use layout::PAIR_BYTES;
 ghost use mathlib.Core.Path.{_≡_};
 ghost use Rattle.parse.specs.Parse.{placeOf, allowed, headFault, eventFault, rowFault, pairFault, valueFault, faultAt};
 ghost use Rattle.entries.specs.Entries.{eventsIn, rowsIn, pairsIn, execution};
-ghost use Rattle.sheet.specs.Between.{view, Counted};
+ghost use Rattle.sheet.specs.steps.Between.{view, Counted};
 
 // The place of a refusal of a field, from its number and the place of the tag: made here and nowhere else.
 pub(crate) fn place_of(number: u8, tag: u16) -> u32

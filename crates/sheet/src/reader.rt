@@ -17,7 +17,7 @@ ghost use Rattle.format.specs.Field.{nextAt};
 ghost use Rattle.parse.specs.Parse.{finish};
 ghost use Rattle.entries.specs.Entries.{execution};
 ghost use Rattle.sheet.specs.Handed.{blankCounts, Handed};
-ghost use Rattle.sheet.specs.Between.{view, Ready, Advanced, withHead, withEvent, withRow, withPair, Through, Scanned, parsedOf, refusal};
+ghost use Rattle.sheet.specs.steps.Between.{view, Ready, Advanced, withHead, withEvent, withRow, withPair, Through, Scanned, parsedOf, refusal};
 
 // ---- the counts behind a field
 

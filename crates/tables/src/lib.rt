@@ -1,4 +1,4 @@
-// The tables that every step of the judge works on, in arrays of fixed length. No function has a `requires`: an event counts by its place
+// The tables that every step of the judge works on, in arrays of fixed length: what stands in them. No function has a `requires`: an event counts by its place
 // among 32, a slot by its place among 64, a row by its place among 512.
 use access::covers;
 use format::Pair;
@@ -6,9 +6,8 @@ use format::Row;
 use format::Shape;
 ghost use mathlib.Core.Path.{_≡_};
 ghost use Prim.Native.Nat.{_%_};
-ghost use lib.ListN.{set};
 ghost use Rattle.sets.specs.Mask.{slots};
-ghost use Rattle.tables.specs.Tables.{accesses, agentIn, shapeIn, slotIn, atIn, rowRoom, rowIn, seenIn, wroteIn, pairRoom, pairIn, putting, puttingRow, puttingPair};
+ghost use Rattle.tables.specs.Tables.{accesses, agentIn, shapeIn, slotIn, atIn, rowRoom, rowIn, seenIn, wroteIn, pairRoom, pairIn};
 
 // The slots for accesses, two to an event.
 pub const ACCESSES: usize = 64;
@@ -30,15 +29,6 @@ pub const PAIRS: usize = 32;
 
 // Two columns: first, second.
 pub const PAIR_CELLS: usize = 64;
-
-// Writes a byte.
-fn put(bytes: &mut [u8], i: usize, b: u8)
-    ensures { λ _. ⌜ now (bytes .exit) ≡ set (now (bytes .entry)) i b ⌝ }
-{
-    if i < bytes.len() {
-        bytes[i] = b;
-    }
-}
 
 // ---- accesses
 
@@ -86,23 +76,6 @@ pub fn at(t: &[u8; COLUMNS], e: usize, a: u8) -> Shape
     }
 }
 
-pub fn put_agent(t: &mut [u8], e: usize, agent: u8)
-    ensures { λ _. ⌜ now (t .exit) ≡ set (now (t .entry)) (e % slots) agent ⌝ }
-{
-    put(t, e % 32, agent);
-}
-
-pub fn put_access(t: &mut [u8], k: usize, a: Shape)
-    ensures { λ _. ⌜ now (t .exit) ≡ putting (now (t .entry)) (k % accesses) a ⌝ }
-{
-    let i = k % 64;
-    put(t, 32 + i, a.kind);
-    put(t, 96 + i, a.mode);
-    put(t, 160 + i, a.start);
-    put(t, 224 + i, a.width);
-    put(t, 288 + i, a.tear);
-}
-
 // ---- rows
 
 pub fn row(q: &[u8; ROW_CELLS], j: usize) -> Row
@@ -128,17 +101,6 @@ pub fn wrote(q: &[u8; ROW_CELLS], j: usize) -> u8
     q[2048 + j % 512]
 }
 
-pub fn put_row(q: &mut [u8], j: usize, r: Row, seen: u8, wrote: u8)
-    ensures { λ _. ⌜ now (q .exit) ≡ puttingRow (now (q .entry)) (j % rowRoom) r seen wrote ⌝ }
-{
-    let i = j % 512;
-    put(q, i, r.reader);
-    put(q, 512 + i, r.address);
-    put(q, 1024 + i, r.writer);
-    put(q, 1536 + i, seen);
-    put(q, 2048 + i, wrote);
-}
-
 // ---- pairs
 
 pub fn pair(p: &[u8; PAIR_CELLS], j: usize) -> Pair
@@ -149,12 +111,4 @@ pub fn pair(p: &[u8; PAIR_CELLS], j: usize) -> Pair
         first: p[i] % 32,
         second: p[32 + i] % 32,
     }
-}
-
-pub fn put_pair(p: &mut [u8], j: usize, r: Pair)
-    ensures { λ _. ⌜ now (p .exit) ≡ puttingPair (now (p .entry)) (j % pairRoom) r ⌝ }
-{
-    let i = j % 32;
-    put(p, i, r.first);
-    put(p, 32 + i, r.second);
 }

@@ -6,7 +6,7 @@ use native.Mathlib.Omega.{arith}
 use borrow.Author.Needs.{needs}
 use denote.Ref.{now}
 use Rattle.sets.specs.Mask.{slots}
-use Rattle.sets.specs.Closure.{taken, Closed}
+use Rattle.closing.specs.Closure.{taken, Closed}
 use Rattle.tables.specs.Tables.{rowRoom, pairRoom}
 use Rattle.before.specs.Before.{stepsIn, ClosedSteps}
 use Rattle.before.proofs.fill.Statement.{statement}

@@ -5,7 +5,7 @@ use native.Mathlib.Nat.{mod-eq-of-lt}
 use native.Mathlib.Omega.{arith}
 use denote.Ref.{now}
 use lib.ListN.{length, getD}
-use Rattle.sets.specs.Closure.{taken}
+use Rattle.closing.specs.Closure.{taken}
 use Rattle.cells.specs.Walk.{upTo}
 use Rattle.cells.specs.Cells.{scatter}
 use Rattle.before.specs.Before.{turnAt, columnsIn}

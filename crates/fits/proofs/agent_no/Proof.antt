@@ -7,7 +7,7 @@ use borrow.Author.Tests.{lt-ltb, le-ltb}
 use native.Mathlib.Omega.{arith}
 use lib.Dec.{ltb}
 use lib.ListN.{length}
-use Rattle.fits.specs.Fits.{agentNo}
+use Rattle.fits.specs.steps.ByNumber.{agentNo}
 use borrow.Author.Needs.{needs}
 use Rattle.fits.proofs.agent_no.Statement.{statement}
 use Rattle.fits.proofs.agent_no.Tie as tie

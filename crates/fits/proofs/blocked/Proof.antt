@@ -11,8 +11,8 @@ use Rattle.format.specs.Event.{Event, nobody}
 use Rattle.format.specs.Execution.{eventNo}
 use Rattle.entries.specs.Entries.{eventsOn}
 use Rattle.entries.proofs.EntriesLaws.{events-count, events-capped}
-use Rattle.fits.specs.Fits.{blocks}
-use Rattle.fits.proofs.FitsLaws.{blocks-at}
+use Rattle.fits.specs.steps.ByNumber.{blocks}
+use Rattle.fits.proofs.ByNumberLaws.{blocks-at}
 use borrow.Author.Needs.{needs}
 use Rattle.fits.proofs.blocked.Statement.{statement}
 use Rattle.fits.proofs.blocked.Tie as tie

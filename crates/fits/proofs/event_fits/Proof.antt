@@ -8,7 +8,7 @@ use Rattle.basis.proofs.BoolLaws.{and-holds, and-fails, or-holds, or-fails, non
 use Rattle.format.specs.Shape.{initial}
 use Rattle.content.specs.Content.{eventFits, alone}
 use Rattle.entries.specs.Entries.{eventsIn}
-use Rattle.fits.proofs.FitsLaws.{stands-free}
+use Rattle.fits.proofs.ByNumberLaws.{stands-free}
 use borrow.Author.Needs.{needs}
 use Rattle.fits.proofs.event_fits.Statement.{statement}
 use Rattle.fits.proofs.event_fits.Tie as tie

@@ -2,7 +2,7 @@
 use denote.Ref.{now}
 use Rattle.basis.specs.Test.{_and_, non}
 use Rattle.content.specs.Content.{pairFits, parts}
-use Rattle.fits.proofs.FitsLaws.{marks-no, agent-no}
+use Rattle.fits.proofs.ByNumberLaws.{marks-no, agent-no}
 use borrow.Author.Needs.{needs}
 use Rattle.fits.proofs.pair_fits.Statement.{statement}
 use Rattle.fits.proofs.pair_fits.Tie as tie

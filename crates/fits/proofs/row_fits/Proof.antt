@@ -2,7 +2,7 @@
 use denote.Ref.{now}
 use Rattle.basis.specs.Test.{_and_, non}
 use Rattle.content.specs.Content.{rowFits, joins}
-use Rattle.fits.proofs.FitsLaws.{reads-no, writes-no}
+use Rattle.fits.proofs.ByNumberLaws.{reads-no, writes-no}
 use borrow.Author.Needs.{needs}
 use Rattle.fits.proofs.row_fits.Statement.{statement}
 use Rattle.fits.proofs.row_fits.Tie as tie

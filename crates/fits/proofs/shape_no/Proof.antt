@@ -7,7 +7,7 @@ use borrow.Author.Tests.{lt-ltb, le-ltb}
 use native.Mathlib.Omega.{arith}
 use lib.Dec.{ltb}
 use lib.ListN.{length}
-use Rattle.fits.specs.Fits.{shapeNo}
+use Rattle.fits.specs.steps.ByNumber.{shapeNo}
 use borrow.Author.Needs.{needs}
 use Rattle.fits.proofs.shape_no.Statement.{statement}
 use Rattle.fits.proofs.shape_no.Tie as tie

@@ -4,7 +4,7 @@ use Prim.Native.Nat.{_-_}
 use native.Mathlib.Omega.{arith}
 use borrow.Author.Needs.{needs}
 use borrow.Author.Tests.{leb-true, leb-false}
-use Rattle.sets.specs.Table.{bytesFor}
+use Rattle.marks.specs.Table.{bytesFor}
 use Rattle.sets.proofs.TellsLaws.{tells-no}
 use Rattle.orders.proofs.AnswerLaws.{needed-slots}
 use Rattle.orders.proofs.fits.Statement.{statement}

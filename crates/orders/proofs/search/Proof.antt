@@ -4,8 +4,9 @@ use Prim.Native.Nat.{_-_}
 use native.Mathlib.Omega.{arith}
 use borrow.Author.Needs.{needs}
 use denote.Ref.{now}
-use Rattle.sets.specs.Table.{bytesFor}
+use Rattle.marks.specs.Table.{bytesFor}
 use Rattle.orders.specs.Tables.{tabled}
+use Rattle.orders.proofs.TablesLaws.{gathered}
 use Rattle.orders.proofs.AnswerLaws.{needed-slots, starts, searched}
 use Rattle.orders.proofs.search.Statement.{statement}
 use Rattle.orders.proofs.search.Tie as tie
@@ -30,7 +31,7 @@ walk-requires c κs =
     let a = c .before .before .before .before .before .before .before .before .before .before .before .before .before .args in
     let f = c .before .before .before .before .before .before .before .before .before .before .before .before .before .pre .0 in
     let n = needed-slots (a .m - a .k) (c .before .before .before .before .before .before .before .needed .result) (let z = f .events in omega (arith, z)) (c .before .before .before .before .before .before .before .needed .ensures) in
-    (starts (tabled (a .m) (now (a .before)) (now (a .bars))) (a .k) (now (a .scratch)) (now (a .path)) (c .before .before .before .before .before .clear .last .0) (c .before .before .before .before .before .before .before .needed .result) f (c .before .before .before .before .before .before .before .before .before .before .before .before .before .pre .1) n (c .before .before .before .before .before .clear .ensures), c .before .before .before .before .before .before .before .before .before .gather .ensures)
+    (starts (tabled (a .m) (now (a .before)) (now (a .bars))) (a .k) (now (a .scratch)) (now (a .path)) (c .before .before .before .before .before .clear .last .0) (c .before .before .before .before .before .before .before .needed .result) f (c .before .before .before .before .before .before .before .before .before .before .before .before .before .pre .1) n (c .before .before .before .before .before .clear .ensures), gathered (a .m) (now (a .bars)) _ _ (f .events) (omega arith) (c .before .before .before .before .before .before .before .before .before .gather .ensures))
 
 clear-requires-2 : tie.Need-clear-requires-2
 clear-requires-2 c κs = search needs

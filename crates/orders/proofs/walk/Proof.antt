@@ -9,7 +9,8 @@ use denote.Ref.{now}
 use lib.ListN.{length, length-set, take, set}
 use Rattle.sets.specs.Mask.{full}
 use Rattle.orders.specs.Tables.{tabled}
-use Rattle.orders.proofs.StandLaws.{Stand, left, stand-start, next-deep, may-enter, stand-on, left-falls, last-event, may-leave, stand-left, entered, full-slots}
+use Rattle.orders.proofs.StandLaws.{Stand, left, stand-start, may-enter, stand-on, left-falls, last-event, may-leave, stand-left, entered-at, entered, full-slots}
+use Rattle.orders.proofs.NextLaws.{stand-next}
 use Rattle.orders.proofs.SeekLaws.{Seek, seek-start, seek-on, seek-none, seek-back, seek-end}
 use Rattle.orders.proofs.walk.Statement.{statement}
 use Rattle.orders.proofs.walk.Tie as tie
@@ -33,16 +34,21 @@ loop-holds c =
     (rw e (stand-start st), seek-start st, refl)
 
 next-requires : tie.Need-next-requires Inv-loop μ-loop
-next-requires c κs = let g = c .before .before .loop .inv .0 in (c .before .before .before .before .before .before .before .pre .0 .events, g .low, g .high, c .before .before .before .before .before .before .before .pre .1, g .tried)
+next-requires c κs = tt
 
 enter-requires : tie.Need-enter-requires Inv-loop μ-loop
-enter-requires c κs = may-enter (c .before .before .before .before .before .before .before .before .before .before .before .pre .0) (c .before .before .before .before .before .before .loop .inv .0) (c .before .before .if1 .taken) (c .before .before .before .next .ensures)
+enter-requires c κs = tt
 
 add-depth : tie.Need-add-depth Inv-loop μ-loop
 add-depth c = let g = c .before .before .before .before .before .before .before .before .before .before .before .loop .inv .0 .depth-le in omega (arith, g)
 
 loop-less : tie.Need-loop-less Inv-loop μ-loop
-loop-less c = let f = left-falls (c .before .before .before .before .before .before .before .before .before .before .before .before .before .before .before .before .pre .0) (c .before .before .before .before .before .before .before .before .before .before .before .loop .inv .0) (c .before .before .before .before .before .before .before .if1 .taken) (c .before .before .before .before .before .before .before .before .next .ensures) in rw (c .before .before .before .before .enter .ensures .marked) (omega (arith, f))
+loop-less c =
+    let st = c .before .before .before .before .before .before .before .before .before .before .before .before .before .before .before .before .pre .0 in
+    let g = c .before .before .before .before .before .before .before .before .before .before .before .loop .inv .0 in
+    let n = stand-next (c .before .before .before .before .before .before .before .before .before .before .before .before .before .before .before .before .pre .1) st g (c .before .before .before .before .before .before .before .before .next .ensures) in
+    let f = left-falls st g (c .before .before .before .before .before .before .before .if1 .taken) n in
+    rw (entered-at (may-enter st g (c .before .before .before .before .before .before .before .if1 .taken) n) (c .before .before .before .before .enter .ensures) .marked) (omega (arith, f))
 
 loop-again : tie.Need-loop-again Inv-loop μ-loop
 loop-again c =
@@ -50,13 +56,13 @@ loop-again c =
     let g = c .before .before .before .before .before .before .before .before .before .before .before .loop .inv .0 in
     let w = c .before .before .before .before .before .before .before .before .before .before .before .loop .inv .1 in
     let h = c .before .before .before .before .before .before .before .if1 .taken in
-    let n = c .before .before .before .before .before .before .before .before .next .ensures in
+    let n = stand-next (c .before .before .before .before .before .before .before .before .before .before .before .before .before .before .before .before .pre .1) st g (c .before .before .before .before .before .before .before .before .next .ensures) in
     let P = tabled (c .before .before .before .before .before .before .before .before .before .before .before .before .before .before .before .before .args .m) (now (c .before .before .before .before .before .before .before .before .before .before .before .before .before .before .before .before .args .before)) (now (c .before .before .before .before .before .before .before .before .before .before .before .before .before .before .before .before .args .bars)) in
     let d : ℕ = c .before .before .before .before .before .before .before .before .before .before .before .loop .depth in
     entered
     (λ (x : ℕ) (t p : List ℕ).
     Stand P (c .before .before .before .before .before .before .before .before .before .before .before .before .before .before .before .before .args .k) (now (c .before .before .before .before .before .before .before .before .before .before .before .before .before .before .before .before .args .table)) t p x (d + 1) (c .before .before .before .before .before .before .before .before .before .before .before .before .before .before .before .before .args .k) × Seek P (c .before .before .before .before .before .before .before .before .before .before .before .before .before .before .before .before .args .k) (take (d + 1) p) t × (length p ≡ length (now (c .before .before .before .before .before .before .before .before .before .before .before .before .before .before .before .before .args .path))))
-    (c .before .before .before .before .enter .ensures)
+    (entered-at (may-enter st g h n) (c .before .before .before .before .enter .ensures))
     (stand-on st g h n, seek-on st g w h n, length-set (c .before .before .before .before .before .before .before .before .before .before .before .loop .path) d (c .before .before .before .before .before .before .before .before .next .result) ∙ c .before .before .before .before .before .before .before .before .before .before .before .loop .inv .2)
 
 same-length : tie.Need-same-length Inv-loop μ-loop
@@ -71,7 +77,7 @@ returns c =
     let e = c .before .before .before .before .before .before .before .full .ensures ∙ full-slots (c .before .before .before .before .before .before .before .before .before .before .args .m) (st .events) in
     record {
       found = λ z. absurd (false≢true z);
-      none = λ z. seek-none st (c .before .before .before .before .before .loop .inv .0) (c .before .before .before .before .before .loop .inv .1) (λ q. c .before .before .before .before .loop-test .taken (q ∙ sym e)) (c .before .if1 .left) (c .before .before .next .ensures) (c .if2 .taken);
+      none = λ z. seek-none st (c .before .before .before .before .before .loop .inv .0) (c .before .before .before .before .before .loop .inv .1) (λ q. c .before .before .before .before .loop-test .taken (q ∙ sym e)) (c .before .if1 .left) (stand-next (c .before .before .before .before .before .before .before .before .before .before .pre .1) st (c .before .before .before .before .before .loop .inv .0) (c .before .before .next .ensures)) (c .if2 .taken);
       size = c .before .before .before .before .before .loop .inv .0 .size;
       rest = c .before .before .before .before .before .loop .inv .0 .rest;
     }
@@ -79,31 +85,34 @@ returns c =
 sub-depth : tie.Need-sub-depth Inv-loop μ-loop
 sub-depth c = omega arith
 
-last-requires : tie.Need-last-requires Inv-loop μ-loop
-last-requires c κs = may-leave (c .before .before .before .before .before .before .before .before .before .before .before .pre .0) (c .before .before .before .before .before .before .loop .inv .0) (let y = c .before .if2 .left in omega (arith, y))
+slice-read-x : tie.Need-slice-read-x Inv-loop μ-loop
+slice-read-x c = may-leave (c .before .before .before .before .before .before .before .before .before .before .before .pre .0) (c .before .before .before .before .before .before .loop .inv .0) (let y = c .before .if2 .left in omega (arith, y))
+
+cast-x : tie.Need-cast-x Inv-loop μ-loop
+cast-x c =
+    let z = last-event (c .before .before .before .before .before .before .before .before .before .before .before .pre .0) (c .before .before .before .before .before .before .loop .inv .0) (let y = c .before .if2 .left in omega (arith, y)) in let b = c .before .before .before .before .before .before .before .before .before .before .before .pre .0 .events in omega (arith, z, b)
 
 without-requires : tie.Need-without-requires Inv-loop μ-loop
 without-requires c κs = tt
 
 add-from : tie.Need-add-from Inv-loop μ-loop
 add-from c =
-    let z = last-event (c .before .before .before .before .before .before .before .before .before .before .before .before .before .pre .0) (c .before .before .before .before .before .before .before .before .loop .inv .0) (let y = c .before .before .before .if2 .left in omega (arith, y)) in
-    let e = c .before .last .ensures in
-    let b = c .before .before .before .before .before .before .before .before .before .before .before .before .before .pre .0 .events in
-    omega (arith, z, e, b)
+    let z = last-event (c .before .before .before .before .before .before .before .before .before .before .before .before .pre .0) (c .before .before .before .before .before .before .before .loop .inv .0) (let y = c .before .before .if2 .left in omega (arith, y)) in
+    let b = c .before .before .before .before .before .before .before .before .before .before .before .before .pre .0 .events in
+    omega (arith, z, b)
 
 loop-less-2 : tie.Need-loop-less-2 Inv-loop μ-loop
-loop-less-2 c = let y = c .before .before .before .if2 .left in omega (arith, y)
+loop-less-2 c = let y = c .before .before .if2 .left in omega (arith, y)
 
 loop-again-2 : tie.Need-loop-again-2 Inv-loop μ-loop
 loop-again-2 c =
-    let st = c .before .before .before .before .before .before .before .before .before .before .before .before .before .pre .0 in
-    let g = c .before .before .before .before .before .before .before .before .loop .inv .0 in
-    let e = c .before .before .before .before .before .before .before .before .before .before .full .ensures ∙ full-slots (c .before .before .before .before .before .before .before .before .before .before .before .before .before .args .m) (st .events) in
-    let deep : 0 < c .before .before .before .before .before .before .before .before .loop .depth = let y = c .before .before .before .if2 .left in omega (arith, y) in (
-      stand-left st g deep (c .before .last .result) (c .without .result) (c .before .last .ensures) (c .without .ensures),
-      seek-back st g (c .before .before .before .before .before .before .before .before .loop .inv .1) (λ q. c .before .before .before .before .before .before .before .loop-test .taken (q ∙ sym e)) (c .before .before .before .before .if1 .left) (c .before .before .before .before .before .next .ensures) deep,
-      c .before .before .before .before .before .before .before .before .loop .inv .2,
+    let st = c .before .before .before .before .before .before .before .before .before .before .before .before .pre .0 in
+    let g = c .before .before .before .before .before .before .before .loop .inv .0 in
+    let e = c .before .before .before .before .before .before .before .before .before .full .ensures ∙ full-slots (c .before .before .before .before .before .before .before .before .before .before .before .before .args .m) (st .events) in
+    let deep : 0 < c .before .before .before .before .before .before .before .loop .depth = let y = c .before .before .if2 .left in omega (arith, y) in (
+      stand-left st g deep _ (c .without .result) refl (c .without .ensures),
+      seek-back st g (c .before .before .before .before .before .before .before .loop .inv .1) (λ q. c .before .before .before .before .before .before .loop-test .taken (q ∙ sym e)) (c .before .before .before .if1 .left) (stand-next (c .before .before .before .before .before .before .before .before .before .before .before .before .pre .1) st (c .before .before .before .before .before .before .before .loop .inv .0) (c .before .before .before .before .next .ensures)) deep,
+      c .before .before .before .before .before .before .before .loop .inv .2,
     )
 
 same-length-3 : tie.Need-same-length-3 Inv-loop μ-loop
@@ -141,7 +150,8 @@ walk-spec =
     same-length-2
     returns
     sub-depth
-    last-requires
+    slice-read-x
+    cast-x
     without-requires
     add-from
     loop-less-2

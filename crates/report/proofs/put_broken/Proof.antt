@@ -1,7 +1,9 @@
 -- `report::put_broken` meets its contract: the pieces are put one after the other. Assumes nothing.
 use native.Mathlib.Omega.{arith}
 use borrow.Author.Needs.{needs}
-use Rattle.report.proofs.PutLaws.{put-then}
+use Rattle.answer.specs.NameOf.{namesOf}
+use Rattle.puts.proofs.PutLaws.{puts-then}
+use Rattle.report.proofs.LineLaws.{broken-near}
 use Rattle.report.proofs.put_broken.Statement.{statement}
 use Rattle.report.proofs.put_broken.Tie as tie
 
@@ -24,7 +26,9 @@ same-length : tie.Need-same-length
 same-length c = search needs
 
 returns : tie.Need-returns
-returns c = record { put = put-then (put-then (c .before .before .before .before .before .before .before .before .before .before .before .put-bytes .ensures) (c .before .before .before .before .before .before .before .put-number .ensures .put)) (rw (c .before .before .before .names-of .ensures) at (c .before .before .put-names .ensures .put)); near = omega arith }
+returns c =
+    let names = rw (c .before .before .before .names-of .ensures) at (c .before .before .put-names .ensures) in
+    record { put = puts-then (puts-then (c .before .before .before .before .before .before .before .before .before .before .before .put-bytes .ensures) (c .before .before .before .before .before .before .before .put-number .ensures .put)) (names .put); near = broken-near (c .before .before .before .before .before .before .before .before .before .before .before .before .before .before .before .args .n) (namesOf (c .before .before .before .before .before .before .before .before .before .before .before .before .before .before .before .args .names)) (c .before .before .before .before .before .before .before .put-number .ensures .near) (names .near) }
 
 pub put-broken-spec : {M : Type 1} → statement M
 put-broken-spec =

@@ -1,7 +1,8 @@
 -- `report::put_names` meets its contract: four names, each right after the one before. Assumes nothing.
 use native.Mathlib.Omega.{arith}
 use borrow.Author.Needs.{needs}
-use Rattle.report.proofs.PutLaws.{put-then}
+use lib.ListN.{length-append}
+use Rattle.puts.proofs.PutLaws.{puts-then}
 use Rattle.report.proofs.put_names.Statement.{statement}
 use Rattle.report.proofs.put_names.Tie as tie
 
@@ -21,7 +22,7 @@ same-length : tie.Need-same-length
 same-length c = search needs
 
 returns : tie.Need-returns
-returns c = record { put = put-then (put-then (put-then (c .before .before .before .before .before .before .before .before .before .before .before .before .before .before .put-name .ensures .put) (c .before .before .before .before .before .before .before .before .before .before .put-name2 .ensures .put)) (c .before .before .before .before .before .before .put-name3 .ensures .put)) (c .before .before .put-name4 .ensures .put); near = omega arith }
+returns c = record { put = puts-then (puts-then (puts-then (c .before .before .before .before .before .before .before .before .before .before .before .before .before .before .put-name .ensures .put) (c .before .before .before .before .before .before .before .before .before .before .put-name2 .ensures .put)) (c .before .before .before .before .before .before .put-name3 .ensures .put)) (c .before .before .put-name4 .ensures .put); near = simp length-append (omega (arith, c .before .before .before .before .before .before .before .before .before .before .before .before .before .before .put-name .ensures .near, c .before .before .before .before .before .before .before .before .before .before .put-name2 .ensures .near, c .before .before .before .before .before .before .put-name3 .ensures .near, c .before .before .put-name4 .ensures .near)) }
 
 pub put-names-spec : {M : Type 1} → statement M
 put-names-spec =

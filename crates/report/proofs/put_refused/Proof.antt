@@ -1,7 +1,8 @@
 -- `report::put_refused` meets its contract: the pieces are put one after the other. Assumes nothing.
 use native.Mathlib.Omega.{arith}
 use borrow.Author.Needs.{needs}
-use Rattle.report.proofs.PutLaws.{put-then}
+use lib.ListN.{length-append}
+use Rattle.puts.proofs.PutLaws.{puts-then}
 use Rattle.report.proofs.put_refused.Statement.{statement}
 use Rattle.report.proofs.put_refused.Tie as tie
 
@@ -27,7 +28,7 @@ same-length : tie.Need-same-length
 same-length c = search needs
 
 returns : tie.Need-returns
-returns c = record { put = put-then (put-then (put-then (c .before .before .before .before .before .before .before .before .before .before .before .before .before .before .before .put-bytes .ensures) (c .before .before .before .before .before .before .before .before .before .before .before .put-number .ensures .put)) (c .before .before .before .before .before .before .put-bytes2 .ensures)) (c .before .before .put-number2 .ensures .put); near = omega arith }
+returns c = record { put = puts-then (puts-then (puts-then (c .before .before .before .before .before .before .before .before .before .before .before .before .before .before .before .put-bytes .ensures) (c .before .before .before .before .before .before .before .before .before .before .before .put-number .ensures .put)) (c .before .before .before .before .before .before .put-bytes2 .ensures)) (c .before .before .put-number2 .ensures .put); near = simp length-append (omega (arith, c .before .before .before .before .before .before .before .before .before .before .before .put-number .ensures .near, c .before .before .put-number2 .ensures .near)) }
 
 pub put-refused-spec : {M : Type 1} → statement M
 put-refused-spec =

@@ -1,7 +1,8 @@
 -- `report::put_settled` meets its contract: in each arm the case is known, and the pieces are put one after the other. Assumes nothing.
 use native.Mathlib.Omega.{arith}
 use borrow.Author.Needs.{needs}
-use Rattle.report.proofs.PutLaws.{put-then}
+use lib.ListN.{length-append}
+use Rattle.puts.proofs.PutLaws.{puts-then}
 use Rattle.report.proofs.put_settled.Statement.{statement}
 use Rattle.report.proofs.put_settled.Tie as tie
 
@@ -51,7 +52,7 @@ same-length-2 : tie.Need-same-length-2
 same-length-2 c = search needs
 
 returns-2 : tie.Need-returns-2
-returns-2 c = rw (c .before .before .before .before .before .before .before .before .before .before .before .before .before .before .before .before .before .before .before .s .given .1) (record { put = put-then (put-then (put-then (c .before .before .before .before .before .before .before .before .before .before .before .before .before .before .before .put-bytes2 .ensures) (c .before .before .before .before .before .before .before .before .before .before .before .put-number .ensures .put)) (c .before .before .before .before .before .before .before .put-number2 .ensures .put)) (c .before .before .put-bytes3 .ensures); near = omega arith })
+returns-2 c = rw (c .before .before .before .before .before .before .before .before .before .before .before .before .before .before .before .before .before .before .before .s .given .1) (record { put = puts-then (puts-then (puts-then (c .before .before .before .before .before .before .before .before .before .before .before .before .before .before .before .put-bytes2 .ensures) (c .before .before .before .before .before .before .before .before .before .before .before .put-number .ensures .put)) (c .before .before .before .before .before .before .before .put-number2 .ensures .put)) (c .before .before .put-bytes3 .ensures); near = simp length-append (omega (arith, c .before .before .before .before .before .before .before .before .before .before .before .put-number .ensures .near, c .before .before .before .before .before .before .before .put-number2 .ensures .near)) })
 
 pub put-settled-spec : {M : Type 1} → statement M
 put-settled-spec =

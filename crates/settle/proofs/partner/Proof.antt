@@ -11,7 +11,7 @@ use Rattle.sets.proofs.MaskLaws.{remove-lt}
 use Rattle.cells.specs.Walk.{picked}
 use Rattle.cells.proofs.FirstLaws.{Left, left-lowest, left-next}
 use Rattle.settle.specs.steps.Ahead.{aheadIn, freeIn}
-use Rattle.settle.proofs.SettleLaws.{partner-start, partner-hit, partner-end}
+use Rattle.settle.proofs.SettleLaws.{ahead-is, partner-start, partner-hit, partner-end}
 use borrow.Author.Needs.{needs}
 use Rattle.settle.proofs.partner.Statement.{statement}
 use Rattle.settle.proofs.partner.Tie as tie
@@ -22,14 +22,17 @@ Inv-loop t succ n e left₀ left = Left (freeIn t succ (e % slots)) (picked (min
 abbrev μ-loop : tie.MeasureT-loop
 μ-loop t succ n e left₀ left = left
 
-mul-ahead : tie.Need-mul-ahead Inv-loop μ-loop
-mul-ahead c = search needs
+mul-rest : tie.Need-mul-rest Inv-loop μ-loop
+mul-rest c = search needs
 
-element-copy-out-ahead : tie.Need-element-copy-out-ahead Inv-loop μ-loop
-element-copy-out-ahead c = search needs
+element-copy-out-rest : tie.Need-element-copy-out-rest Inv-loop μ-loop
+element-copy-out-rest c = search needs
 
-ahead-requires : tie.Need-ahead-requires Inv-loop μ-loop
-ahead-requires c κs = search needs
+add-rest : tie.Need-add-rest Inv-loop μ-loop
+add-rest c = search needs
+
+rest-requires : tie.Need-rest-requires Inv-loop μ-loop
+rest-requires c κs = search needs
 
 loop-holds : tie.Need-loop-holds Inv-loop μ-loop
 loop-holds c =
@@ -37,7 +40,7 @@ loop-holds c =
     let s = now (c .before .before .args .succ) in
     let n = min (c .before .before .args .n) slots in
     let e = c .before .before .args .e % slots in
-    subst (Left (freeIn t s e) (picked n (aheadIn (getD s e 0) e))) (sym (c .ahead .ensures)) (partner-start t s n e (omega arith))
+    subst (Left (freeIn t s e) (picked n (aheadIn (getD s e 0) e))) (sym (ahead-is (getD s e 0) n e (c .rest .result) (c .rest .ensures))) (partner-start t s n e (omega arith))
 
 lowest-requires : tie.Need-lowest-requires Inv-loop μ-loop
 lowest-requires c κs = search needs
@@ -90,9 +93,10 @@ partner-spec =
     (tie.spec
     Inv-loop
     μ-loop
-    mul-ahead
-    element-copy-out-ahead
-    ahead-requires
+    mul-rest
+    element-copy-out-rest
+    add-rest
+    rest-requires
     loop-holds
     lowest-requires
     loose-requires

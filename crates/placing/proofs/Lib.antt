@@ -1,0 +1,3 @@
+pub mod BarsLaws
+pub mod UntriedLaws
+pub mod PlacingLaws

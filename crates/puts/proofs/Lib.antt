@@ -1,0 +1,4 @@
+pub mod NumberLaws
+pub mod DecimalLaws
+pub mod NumbersLaws
+pub mod PutLaws

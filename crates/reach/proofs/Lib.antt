@@ -1,0 +1,4 @@
+pub mod ReachableLaws
+pub mod TallyLaws
+pub mod TalliedLaws
+pub mod Promises

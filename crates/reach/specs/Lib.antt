@@ -1,0 +1,3 @@
+pub mod Reachable
+pub mod Counting
+pub mod Promises

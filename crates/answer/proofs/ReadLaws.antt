@@ -7,7 +7,6 @@ use mathlib.Core.Path.{_≡_, refl, sym, ap, _∙_}
 use Prim.Native.Nat.{ℕ, _*_, _+_, _^_, _<_}
 use native.Mathlib.Omega.{arith}
 use borrow.Author.Tests.{ne-eqb}
-use lib.Dec.{eqb}
 use Rattle.answer.specs.declared.Name.{Name}
 use Rattle.answer.specs.declared.Name.the-variants.{Number, None}
 use Rattle.answer.specs.declared.Four.{Four}
@@ -18,10 +17,10 @@ use Rattle.answer.specs.declared.Settled.the-variants.{Orderly, Unsettle
 use Rattle.answer.specs.declared.Answer.{Answer}
 use Rattle.answer.specs.declared.Answer.the-variants.{Refused, Broken, Consistent}
 use Rattle.answer.specs.Number.{settledNumber}
-use Rattle.answer.specs.NameOf.{four, namesOf, pairOf}
+use Rattle.answer.specs.NameOf.{namesOf, pairOf}
 use Rattle.answer.specs.Word.{byteOf, fourBytes, word, packed}
 use Rattle.answer.specs.Fit.{Below, FourBelow, Fits}
-use Rattle.answer.specs.Read.{kindIn, numberIn, placeIn, byteIn, nameOf, fourIn, namesIn, pairIn, answerIn}
+use Rattle.answer.specs.Read.{kindIn, numberIn, placeIn, byteIn, nameOf, fourIn, namesIn, pairNamed, answerIn}
 use Rattle.answer.proofs.WordLaws.{byte-below, four-more, four-below, four-same, settled-below}
 
 abbrev pub namesInFour : Four → Names
@@ -34,7 +33,7 @@ names-in (Between r w v a) = refl
 names-in (Torn r w v) = refl
 names-in Nobody = refl
 
-pub pair-in : (s : Settled) → pairIn (pairOf s .0) (pairOf s .1) ≡ s
+pub pair-in : (s : Settled) → pairNamed (pairOf s .0) (pairOf s .1) ≡ s
 pair-in Orderly = refl
 pair-in (Unsettled e d) = refl
 
@@ -82,7 +81,7 @@ answer-in (Broken n names) h =
 answer-in (Consistent s) h =
     let r = four-below (pairOf s) (four-more (pairOf s) h) in
     rw (kind-in 3 (settledNumber s) (fourBytes (pairOf s)) (omega arith) (settled-below s) r)
-    (ap (λ (f : Four). Consistent (pairIn (f .0) (f .1))) (four-in 3 (settledNumber s) (pairOf s) h) ∙ ap Consistent (pair-in s))
+    (ap (λ (f : Four). Consistent (pairNamed (f .0) (f .1))) (four-in 3 (settledNumber s) (pairOf s) h) ∙ ap Consistent (pair-in s))
 
 -- so two answers with one word are one answer
 pub packed-unique : (x y : Answer) → Fits 255 x → Fits 255 y → packed x ≡ packed y → x ≡ y

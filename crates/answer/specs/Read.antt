@@ -46,14 +46,14 @@ namesIn (Number e) None v a = Event e
 namesIn None w v a = Nobody
 
 -- 01: "the first two names are the pair"
-abbrev pub pairIn : Name → Name → Settled
-pairIn (Number e) (Number d) = Unsettled e d
-pairIn (Number e) None = Orderly
-pairIn None d = Orderly
+abbrev pub pairNamed : Name → Name → Settled
+pairNamed (Number e) (Number d) = Unsettled e d
+pairNamed (Number e) None = Orderly
+pairNamed None d = Orderly
 
 -- 01: "kind (1, 2, 3)"
 unfoldable pub answerIn : ℕ → Answer
 answerIn w =
     cond (eqb (kindIn w) 1) (Refused (numberIn w) (placeIn w))
     (cond (eqb (kindIn w) 2) (Broken (numberIn w) (namesIn (fourIn w .0) (fourIn w .1) (fourIn w .2) (fourIn w .3)))
-    (Consistent (pairIn (fourIn w .0) (fourIn w .1))))
+    (Consistent (pairNamed (fourIn w .0) (fourIn w .1))))

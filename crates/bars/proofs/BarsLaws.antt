@@ -6,9 +6,9 @@
 --     equals-mem                            the sets of equal ranges, event by event
 --     mask-mem                              a row's mask has exactly the events that the row bars
 --     bars-holds                            the table has exactly the bars of the rows, besides what it had
---     filled-size, filled-holds             the same of an empty table and the sets of equal ranges
+--     filled-holds                          the same of an empty table and the sets of equal ranges
 use mathlib.Core.Path.{_≡_, refl, sym, ap, _∙_, subst}
-use mathlib.Core.Bool.{Bool, true, false, cond, not}
+use mathlib.Core.Bool.{Bool, true, false, cond}
 use mathlib.Core.Logic.{_⊎_, inl, inr, ⊎-elim}
 use mathlib.Core.List.{List, List·Memᴰ}
 use Prim.Native.Nat.{ℕ, zero, suc, _+_, _*_, _/_, _%_, _≤_, _<_}
@@ -19,17 +19,16 @@ use borrow.Author.Tests.{eq-eqb, ne-eqb, eqb-true, ltb-true, ltb-false}
 use lib.Dec.{T, eqb, ltb}
 use lib.ListN.{length, getD, replicate, length-replicate, getD-replicate}
 use Rattle.basis.specs.Test.{_and_, _or_, non, any, from}
-use Rattle.basis.proofs.TestLaws.{any-elim, any-intro, from-mem, from-elim}
-use Rattle.basis.proofs.LoopLaws.{true-T, T-true, and-holds, and-fails, and-both, or-holds, or-either, or-second, both-hold}
-use Rattle.basis.proofs.BoolLaws.{bar-or, amp-and, not-non, and-false, and-swap, and-assoc}
+use Rattle.basis.proofs.BoolLaws.{true-T, T-true, and-holds, and-fails, and-both, or-holds, or-either, or-second, both-hold, bar-or, amp-and, not-non, and-false, and-swap, and-assoc, by-bool, bool-ext, not-both-ways}
+use Rattle.basis.proofs.ListLaws.{from-mem, from-elim}
+use Rattle.basis.proofs.LoopLaws.{any-elim, any-intro}
 use Rattle.format.specs.declared.Shape.{Shape}
 use Rattle.format.specs.declared.Row.{Row}
 use Rattle.format.specs.Shape.{writes, sc, equal, bothSc}
 use Rattle.sets.specs.Mask.{mem, Has, remove}
-use Rattle.sets.proofs.BoolLaws.{by-bool, bool-ext, not-both-ways}
 use Rattle.sets.proofs.MaskLaws.{mem-and, mem-or, mem-empty, mem-remove}
 use Rattle.sets.specs.Mask.{slots}
-use Rattle.cells.specs.Walk.{upTo, over, taking, picked}
+use Rattle.cells.specs.Walk.{upTo, over, taking}
 use Rattle.cells.specs.Cells.{gaining, spread}
 use Rattle.cells.proofs.WalkLaws.{upTo-more, mem-picked, over-picked}
 use Rattle.cells.proofs.CellsLaws.{gaining-length, gaining-back, gaining-keep, gaining-new, placing-at, placing-beyond, spread-length, spread-elim, spread-old, spread-new}
@@ -299,10 +298,6 @@ module _ (t eq succ pred q : List ℕ) (l : List ℕ) (inside : slots * slots �
 module _ (t succ pred q : List ℕ) (n rows : ℕ) where
   abbrev full : List ℕ
   full = filledIn t n succ pred q rows (replicate (slots * slots) 0)
-
-  pub filled-size : length full ≡ slots * slots
-  unfolding filledIn
-  filled-size = bars-length t (equalsIn t n) succ pred q (replicate (slots * slots) 0) rows ∙ length-replicate {A = ℕ} (slots * slots) 0
 
   pub filled-holds : n ≤ slots → (v w r : ℕ) → v < slots → w < slots → mem (getD full (v * slots + w) 0) r
       ≡ any (λ (j : ℕ). eqb (rowIn q j .reader) r and eqb (rowIn q j .writer) w and rowBarsIn t n succ pred (rowIn q j) v) (from 0 rows)

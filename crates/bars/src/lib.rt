@@ -31,7 +31,7 @@ fn hits(a: Shape, b: Shape) -> bool
     if a.start != b.start {
         return false;
     }
-    (a.width == b.width) & ((a.mode == 2) & access::writes(a))
+    (a.width == b.width) & (access::sc(a) & access::writes(a))
 }
 
 // Has event v a writing sc access with the range of b?
@@ -50,7 +50,7 @@ fn note(t: &[u8; COLUMNS], k: usize, starts: &mut [u32])
     ensures { λ _. ⌜ now (starts .exit) ≡ startGains (now (t .entry)) (k % accesses) (now (starts .entry)) ⌝ }
 {
     let a = tables::shape(t, k);
-    let noted = (a.mode == 2) & access::writes(a);
+    let noted = access::sc(a) & access::writes(a);
     if !noted {
         return;
     }
@@ -87,7 +87,7 @@ fn equal(t: &[u8; COLUMNS], starts: &[u32; BYTES], k: usize) -> u32
     ensures { λ r. ⌜ r ≡ amongIn (now (t .entry)) (now (starts .entry)) (k % accesses) ⌝ }
 {
     let b = tables::shape(t, k);
-    if b.mode != 2 {
+    if !access::sc(b) {
         return 0;
     }
     among(t, starts[b.start as usize % BYTES], b)
@@ -117,8 +117,8 @@ fn reasons(a: Shape, b: Shape, as_a: u32, as_b: u32, wr: bool, before: u32, afte
     ensures { λ r. ⌜ r ≡ reasonsIn a b as_a as_b wr before after ⌝ }
 {
     let x = only(access::both_sc(b, a), as_a);
-    let y = only(wr & (b.mode == 2), as_b & before);
-    let z = only(wr & (a.mode == 2), as_a & after);
+    let y = only(wr & access::sc(b), as_b & before);
+    let z = only(wr & access::sc(a), as_a & after);
     x | (y | z)
 }
 

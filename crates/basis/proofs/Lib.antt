@@ -1,6 +1,4 @@
-pub mod TestLaws
-pub mod LoopLaws
-pub mod ListLaws
-pub mod SortedLaws
 pub mod BoolLaws
+pub mod ListLaws
+pub mod LoopLaws
 pub mod FindLaws

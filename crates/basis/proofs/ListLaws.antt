@@ -2,19 +2,21 @@
 --     part-short, part-none         a part that is cut off by the list's end
 --     part-front                    a part of a list's front
 --     front-at, front-past, front-length     a mapped front of a list
---     from-length, from-at          the numbers from a start on
+--     from-length, from-at, from-mem, from-elim, from-next     the numbers from a start on; one more
 --     last-at, snoc-split, each-snoc, two-snoc     a list with one entry more
 --     mem-getD, getD-mem            an entry of a list and its place
 --     each-elim, each-mem, each-id  an entry of a mapped list; mapped by the identity
+--     each-at, each-past, zeros-at  an entry of mapped numbers, by its place; of a row of zeros
+--     across-left, across-mem       a pair of two lists' entries
 use mathlib.Core.Path.{_≡_, refl, sym, ap, _∙_, subst}
 use mathlib.Core.Logic.{_⊎_, inl, inr, ⊎-elim}
-use mathlib.Core.List.{List, [], _∷_, _++_, map, List·Memᴰ, List·Memᴰ·head, List·Memᴰ·tail}
+use mathlib.Core.List.{List, [], _∷_, _++_, map, List·Memᴰ, List·Memᴰ·head, List·Memᴰ·tail, List·Memᴰ·not-nil, List·Memᴰ·cases-cons, List·Memᴰ·append-cases, Memᴰ·append-left, Memᴰ·append-right}
 use Prim.Native.Nat.{ℕ, zero, suc, _+_, _-_, _≤_, _<_}
 use native.Mathlib.Omega.{arith}
-use lib.ListN.{length, getD, take, drop, length-drop, length-take, length-map, drop-of-length-le, length-append, List·getD-append, List·getD-eq-default}
+use lib.ListN.{length, getD, take, drop, replicate, length-drop, length-take, length-map, drop-of-length-le, length-append, List·getD-append, List·getD-eq-default}
 use lib.Seq.{take-all, take-nil, take-take, getD-take, getD-append-seam}
 use native.Mathlib.Nat.{eq-or-lt-of-le}
-use Rattle.basis.specs.Test.{each, from}
+use Rattle.basis.specs.Test.{each, across, from}
 
 pub part-short : (s : List ℕ) (a n : ℕ) → length s - a ≤ n → take (length s - a) (drop a s) ≡ take n (drop a s)
 part-short s a n h =
@@ -54,6 +56,36 @@ unfolding from
 from-at s zero i d h = absurd (omega arith)
 from-at s (suc n) zero d h = omega arith
 from-at s (suc n) (suc i) d h = let e = from-at (suc s) n i d (omega arith) in omega arith
+
+pub from-mem : (n s e : ℕ) → s ≤ e → e < s + n → List·Memᴰ e (from s n)
+unfolding from
+from-mem zero s e p q = absurd (omega arith)
+from-mem (suc n) s e p q = go (eq-or-lt-of-le p) (from-mem n (suc s) e)
+  where
+    go : (s ≡ e) ⊎ (s < e) → (suc s ≤ e → e < suc s + n → List·Memᴰ e (from (suc s) n)) → List·Memᴰ e (s ∷ from (suc s) n)
+    go (inl h) ih = List·Memᴰ·head (sym h)
+    go (inr h) ih = List·Memᴰ·tail (ih h (omega arith))
+
+pub from-elim : (n s e : ℕ) → List·Memᴰ e (from s n) → (s ≤ e) × (e < s + n)
+unfolding from
+from-elim zero s e m = absurd (List·Memᴰ·not-nil m)
+from-elim (suc n) s e m = on (List·Memᴰ·cases-cons m) (from-elim n (suc s) e)
+  where
+    on : (e ≡ s) ⊎ List·Memᴰ e (from (suc s) n) → (List·Memᴰ e (from (suc s) n) → (suc s ≤ e) × (e < suc s + n)) → (s ≤ e) × (e < s + suc n)
+    on (inl q) ih = (omega arith, omega arith)
+    on (inr k) ih = let w = ih k in (omega arith, omega arith)
+
+pub from-next : (s k : ℕ) → from s (suc k) ≡ (from s k ++ ((s + k) ∷ []))
+unfolding from
+from-next s zero = let e : s ≡ s + 0 = omega arith in ap (λ (i : ℕ). i ∷ []) e
+from-next s (suc k) =
+    let e : suc s + k ≡ s + suc k = omega arith in
+    ap (λ (l : List ℕ). s ∷ l) (from-next (suc s) k ∙ ap (λ (i : ℕ). from (suc s) k ++ (i ∷ [])) e)
+
+pub zeros-at : (n : ℕ) (l : List ℕ) (i : ℕ) → i < n → getD (replicate n 0 ++ l) i 1 ≡ 0
+zeros-at zero l i h = absurd (omega arith)
+zeros-at (suc n) l zero h = refl
+zeros-at (suc n) l (suc i) h = zeros-at n l i (omega arith)
 
 -- ---- a list with one entry more
 
@@ -109,3 +141,34 @@ pub each-id : {A : Type 0} (l : List A) → each (λ (a : A). a) l ≡ l
 unfolding each
 each-id [] = refl
 each-id (a ∷ l) = ap (λ (m : List _). a ∷ m) (each-id l)
+
+module _ {A : Type 0} where
+  pub each-at : (f : ℕ → A) (n s i : ℕ) (d : A) → i < n → getD (each f (from s n)) i d ≡ f (s + i)
+  unfolding each from
+  each-at f zero s i d h = absurd (omega arith)
+  each-at f (suc n) s zero d h = let e : s ≡ s + 0 = omega arith in ap f e
+  each-at f (suc n) s (suc i) d h = let e : suc s + i ≡ s + suc i = omega arith in each-at f n (suc s) i d (omega arith) ∙ ap f e
+
+  pub each-past : (f : ℕ → A) (n s i : ℕ) (d : A) → n ≤ i → getD (each f (from s n)) i d ≡ d
+  unfolding each from
+  each-past f zero s i d h = refl
+  each-past f (suc n) s zero d h = absurd (omega arith)
+  each-past f (suc n) s (suc i) d h = each-past f n (suc s) i d (omega arith)
+
+-- ---- across
+
+module _ {A B : Type 0} where
+  pub across-left : (l : List A) (m : List B) (p : A × B) → List·Memᴰ p (across l m) → List·Memᴰ (p .0) l
+  unfolding across
+  across-left [] m p k = absurd (List·Memᴰ·not-nil k)
+  across-left (a ∷ l) m p k = on (List·Memᴰ·append-cases (each (λ (b : B). (a, b)) m) k) (across-left l m p)
+    where
+      on : List·Memᴰ p (each (λ (b : B). (a, b)) m) ⊎ List·Memᴰ p (across l m) → (List·Memᴰ p (across l m) → List·Memᴰ (p .0) l) → List·Memᴰ (p .0) (a ∷ l)
+      on (inl q) ih = let w = each-elim (λ (b : B). (a, b)) m p q in List·Memᴰ·head (sym (ap (λ (t : A × B). t .0) (w .1 .1)))
+      on (inr q) ih = List·Memᴰ·tail (ih q)
+
+  pub across-mem : (l : List A) (m : List B) (a : A) (b : B) → List·Memᴰ a l → List·Memᴰ b m → List·Memᴰ {A = A × B} (a, b) (across l m)
+  unfolding across
+  across-mem l m a b (List·Memᴰ·head {x = c} {xs = k} e) q =
+      Memᴰ·append-left (across k m) (subst (λ (d : A). List·Memᴰ {A = A × B} (a, b) (each (λ (y : B). (d, y)) m)) e (each-mem {B = A × B} (λ (y : B). (a, y)) m b q))
+  across-mem l m a b (List·Memᴰ·tail {x = c} {xs = k} p) q = Memᴰ·append-right (each (λ (y : B). (c, y)) m) (across-mem k m a b p q)

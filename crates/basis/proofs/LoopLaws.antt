@@ -1,107 +1,40 @@
--- The laws of a loop over a list: what a test of `specs/Test.antt` says where the loop has come to index i. Assumes nothing.
---     any-at                              one that passes is enough
---     any-none, any-found, any-more       no entry from i on passes; entry i passes; it does not, and the loop goes on
---     find-none-left, find-found, find-more     the same of the first entry that passes
---     number-snoc, all-number                   one entry more; all pass exactly when as many as there are
---     and-holds, and-fails, or-holds, or-fails  a test that is known, on the left
---     and-both, or-either, cond-cases           a test that passed, taken apart
---     both-hold, or-second, non-holds           a test put together from tests that passed
---     all-intro, none-intro, number-append      every entry passes, none does; two lists counted
---     true-T, T-true, false-T, T-false          a test as an equation and as a fact
-use mathlib.Core.Path.{_≡_, refl, sym, ap, _∙_}
-use mathlib.Core.Bool.{Bool, true, false, cond, false≢true}
+-- Whether some entry of a list passes a test, whether all do, and how many (specs/Test.antt). Assumes nothing.
+--     any-elim, any-intro, any-at, none-intro     one that passes is enough; none passes
+--     any-none, any-found, any-more               where a loop has come to index i: no entry is left; entry i passes; it does not, and the loop goes on
+--     any-same, any-each, any-one, any-snoc, any-next     two tests that agree on the list; a mapped list; one entry, one more; one number more
+--     all-intro, all-number                       every entry passes: exactly when as many as there are
+--     number-le, number-both, number-snoc, number-append     at most all; a test and its opposite; one entry more; two lists
+--     number-front                                where those that pass stand in front, they are the first so many
+use mathlib.Core.Path.{_≡_, refl, sym, ap, _∙_, subst}
 use mathlib.Core.Logic.{_⊎_, inl, inr}
-use mathlib.Core.List.{List, [], _∷_, _++_}
-use mathlib.Core.Option.{Option, none, some}
+use mathlib.Core.Bool.{Bool, true, false, cond}
+use mathlib.Core.List.{List, [], _∷_, _++_, List·Memᴰ, List·Memᴰ·head, List·Memᴰ·tail}
 use Prim.Native.Nat.{ℕ, zero, suc, _+_, _≤_, _<_}
 use native.Mathlib.Omega.{arith}
 use native.Mathlib.Numerals.{add-one}
+use native.Mathlib.Nat.{zero-add}
 use lib.Dec.{T, eqb, eqb·suc-suc}
 use lib.ListN.{length, getD, drop, drop-of-length-le}
 use lib.Seq.{drop-cons}
-use borrow.Author.Tests.{eq-eqb, ne-eqb}
-use Rattle.basis.specs.Test.{_and_, _or_, non, any, all, number, keep, find, from}
+use borrow.Author.Tests.{ne-eqb}
+use Rattle.basis.specs.Test.{_and_, _or_, non, any, all, number, each, from}
+use Rattle.basis.proofs.BoolLaws.{true-T, T-true, T-false, or-cases, or-left, or-right, or-none, or-assoc, both-hold}
+use Rattle.basis.proofs.ListLaws.{from-next}
 
-pub true-T : (b : Bool) → b ≡ true → T b
-true-T true e = tt
-true-T false e = absurd (let z : _≡_ {A = ℕ} 0 1 = cc in omega arith)
+module _ {A : Type 0} where
+  pub any-elim : (f : A → Bool) (l : List A) → T (any f l) → (a : A) × List·Memᴰ a l × T (f a)
+  unfolding any
+  any-elim f [] t = absurd t
+  any-elim f (a ∷ l) t = go (any-elim f l) (or-cases (f a) (any f l) t)
+    where
+      go : (T (any f l) → (c : A) × List·Memᴰ c l × T (f c)) → T (f a) ⊎ T (any f l) → (c : A) × List·Memᴰ c (a ∷ l) × T (f c)
+      go ih (inl s) = (a, List·Memᴰ·head refl, s)
+      go ih (inr s) = let w = ih s in (w .0, List·Memᴰ·tail (w .1), w .2)
 
-pub T-true : (b : Bool) → T b → b ≡ true
-T-true true t = refl
-T-true false t = absurd t
-
-pub false-T : (b : Bool) → b ≡ false → T b → ⊥
-false-T true e t = let z : _≡_ {A = ℕ} 0 1 = cc in omega arith
-false-T false e t = t
-
-pub T-false : (b : Bool) → (T b → ⊥) → b ≡ false
-T-false true h = absurd (h tt)
-T-false false h = refl
-
-pub or-none : (b : Bool) → (b or false) ≡ b
-unfolding _or_
-or-none true = refl
-or-none false = refl
-
--- a test that is known, on the left
-pub and-holds : (a b : Bool) → a ≡ true → (a and b) ≡ b
-unfolding _and_
-and-holds a b h = ap (λ (x : Bool). x and b) h
-
-pub and-fails : (a b : Bool) → a ≡ false → (a and b) ≡ false
-unfolding _and_
-and-fails a b h = ap (λ (x : Bool). x and b) h
-
-pub or-holds : (a b : Bool) → a ≡ true → (a or b) ≡ true
-unfolding _or_
-or-holds a b h = ap (λ (x : Bool). x or b) h
-
-pub or-fails : (a b : Bool) → a ≡ false → (a or b) ≡ b
-unfolding _or_
-or-fails a b h = ap (λ (x : Bool). x or b) h
-
--- a test that passed, taken apart
-pub and-both : (a b : Bool) → (a and b) ≡ true → (a ≡ true) × (b ≡ true)
-unfolding _and_
-and-both true b h = (refl, h)
-and-both false b h = absurd (false≢true h)
-
-pub or-either : (a b : Bool) → (a or b) ≡ true → (a ≡ true) ⊎ (b ≡ true)
-unfolding _or_
-or-either true b h = inl refl
-or-either false b h = inr h
-
-pub cond-cases : (b x y : Bool) → cond b x y ≡ true → ((b ≡ true) × (x ≡ true)) ⊎ ((b ≡ false) × (y ≡ true))
-cond-cases true x y h = inl (refl, h)
-cond-cases false x y h = inr (refl, h)
-
-pub non-non : (b : Bool) → non (non b) ≡ b
-unfolding non
-non-non true = refl
-non-non false = refl
-
-pub non-true : (b : Bool) → non b ≡ true → b ≡ false
-unfolding non
-non-true true e = sym e
-non-true false e = refl
-
-pub non-false : (b : Bool) → non b ≡ false → b ≡ true
-unfolding non
-non-false true e = refl
-non-false false e = sym e
-
--- and put together
-pub both-hold : (a b : Bool) → a ≡ true → b ≡ true → (a and b) ≡ true
-both-hold a b p q = and-holds a b p ∙ q
-
-pub or-second : (a b : Bool) → b ≡ true → (a or b) ≡ true
-unfolding _or_
-or-second true b h = refl
-or-second false b h = h
-
-pub non-holds : (b : Bool) → b ≡ false → non b ≡ true
-unfolding non
-non-holds b h = ap non h
+  pub any-intro : (f : A → Bool) (l : List A) (a : A) → List·Memᴰ a l → T (f a) → T (any f l)
+  unfolding any
+  any-intro f l a (List·Memᴰ·head {x = b} {xs = k} e) t = or-left (f b) (any f k) (subst (λ (c : A). T (f c)) e t)
+  any-intro f l a (List·Memᴰ·tail {x = b} {xs = k} m) t = or-right (f b) (any f k) (any-intro f k a m t)
 
 module _ {A : Type 0} (p : A → Bool) (l : List A) where
   any-step : (i : ℕ) (d : A) → i < length l → any p (drop i l) ≡ (p (getD l i d) or any p (drop (i + 1) l))
@@ -119,22 +52,6 @@ module _ {A : Type 0} (p : A → Bool) (l : List A) where
   pub any-more : (i : ℕ) (d : A) → any p l ≡ any p (drop i l) → i < length l → p (getD l i d) ≡ false → any p l ≡ any p (drop (i + 1) l)
   unfolding _or_
   any-more i d e h y = e ∙ any-step i d h ∙ ap (λ (b : Bool). b or any p (drop (i + 1) l)) y
-
-  find-step : (i : ℕ) (d : A) → i < length l → find p (drop i l) ≡ keep (p (getD l i d)) (getD l i d) (find p (drop (i + 1) l))
-  unfolding find
-  find-step i d h = rw (add-one, drop-cons l i d)
-
-  pub find-none-left : (i : ℕ) → find p l ≡ find p (drop i l) → length l ≤ i → find p l ≡ none
-  unfolding find
-  find-none-left i e h = e ∙ rw (drop-of-length-le l {i = i} h)
-
-  pub find-found : (i : ℕ) (d : A) → find p l ≡ find p (drop i l) → i < length l → p (getD l i d) ≡ true → find p l ≡ some (getD l i d)
-  unfolding keep
-  find-found i d e h y = e ∙ find-step i d h ∙ ap (λ (b : Bool). keep b (getD l i d) (find p (drop (i + 1) l))) y
-
-  pub find-more : (i : ℕ) (d : A) → find p l ≡ find p (drop i l) → i < length l → p (getD l i d) ≡ false → find p l ≡ find p (drop (i + 1) l)
-  unfolding keep
-  find-more i d e h y = e ∙ find-step i d h ∙ ap (λ (b : Bool). keep b (getD l i d) (find p (drop (i + 1) l))) y
 
 module _ {A : Type 0} (p : A → Bool) where
   -- one that passes is enough, wherever it stands
@@ -200,6 +117,29 @@ module _ {A : Type 0} (p : A → Bool) (d : A) where
       let e : p a ≡ false = T-false _ (h 0 (omega arith)) in
       ap (λ (b : Bool). b or any p l) e ∙ none-intro l (λ i b. h (suc i) (omega arith))
 
+module _ {A : Type 0} (f g : A → Bool) where
+  pub any-same : (l : List A) → ((a : A) → List·Memᴰ a l → f a ≡ g a) → any f l ≡ any g l
+  unfolding any
+  any-same [] h = refl
+  any-same (a ∷ l) h = rw (h a (List·Memᴰ·head refl), any-same l (λ b m. h b (List·Memᴰ·tail m)))
+
+pub any-each : {A B : Type 0} (f : B → Bool) (g : A → B) (l : List A) → any f (each g l) ≡ any (λ (a : A). f (g a)) l
+unfolding any each
+any-each f g [] = refl
+any-each f g (a ∷ l) = ap (λ (z : Bool). f (g a) or z) (any-each f g l)
+
+pub any-one : {A : Type 0} (f : A → Bool) (a : A) → any f (a ∷ []) ≡ f a
+unfolding any
+any-one f a = or-none (f a)
+
+pub any-snoc : {A : Type 0} (f : A → Bool) (l : List A) (a : A) → any f (l ++ (a ∷ [])) ≡ (any f l or f a)
+unfolding any _or_
+any-snoc f [] a = or-none (f a)
+any-snoc f (b ∷ l) a = rw (any-snoc f l a) (sym (or-assoc (f b) (any f l) (f a)))
+
+pub any-next : (f : ℕ → Bool) (k : ℕ) → any f (from 0 (suc k)) ≡ (any f (from 0 k) or f k)
+any-next f k = ap (any f) (from-next 0 k) ∙ any-snoc f (from 0 k) (0 + k) ∙ ap (λ (i : ℕ). any f (from 0 k) or f i) (zero-add k)
+
 module _ {A : Type 0} (p : A → Bool) where
   pub number-append : (l m : List A) → number p (l ++ m) ≡ number p l + number p m
   unfolding number
@@ -209,3 +149,22 @@ module _ {A : Type 0} (p : A → Bool) where
       go : (b : Bool) → number p (l ++ m) ≡ number p l + number p m → cond b (suc (number p (l ++ m))) (number p (l ++ m)) ≡ cond b (suc (number p l)) (number p l) + number p m
       go true e = omega arith
       go false e = e
+
+-- where the entries that pass stand in front, the first so many are those
+pub number-front : {A : Type 0} (n : A) (f : A → Bool) (l : List A) → ((e d : ℕ) → e < d → d < length l → T (f (getD l d n)) → T (f (getD l e n)))
+    → (e : ℕ) → e < number f l → T (f (getD l e n))
+unfolding number
+number-front n f [] down e h = absurd (omega arith)
+number-front n f (a ∷ l) down e h = go (f a) refl e h (number-front n f l (λ i j q k. down (suc i) (suc j) (omega arith) (omega arith)))
+  where
+    go : (b : Bool) → f a ≡ b → (i : ℕ) → i < cond b (suc (number f l)) (number f l) → ((j : ℕ) → j < number f l → T (f (getD l j n))) → T (f (getD (a ∷ l) i n))
+    go true q zero k ih = true-T _ q
+    go true q (suc i) k ih = ih i (omega arith)
+    go false q i k ih = lowest i k (ih i k) (ih 0 (omega arith))
+      where
+        some-left : (m : List _) → 0 < number f m → 0 < length m
+        some-left [] p = p
+        some-left (c ∷ m) p = omega arith
+
+        lowest : (j : ℕ) → j < number f l → T (f (getD l j n)) → T (f (getD l 0 n)) → T (f (getD (a ∷ l) j n))
+        lowest j p t u = absurd (subst T q (down 0 1 (omega arith) (omega (arith, some-left l (omega arith))) u))

@@ -4,8 +4,8 @@
 --     behind-is, own-is                          the masks by agent give the same
 --     row-gains, row-keeps                       a row that makes a step, and one that makes none
 --     rows-none, rows-more, rows-length, pairs-none, pairs-more, pairs-length, steps-length     a loop's turn, and lengths
---     turn-none, turn-more, turn-length, turned-mem     the columns
---     ordered-unique                             two conforming results are equal
+--     turn-none, turn-more, turn-length, columns-mem     the columns
+--     closed-steps-unique                             two conforming results are equal
 use mathlib.Core.Path.{_≡_, refl, sym, ap, _∙_}
 use mathlib.Core.Bool.{Bool, true, false, cond, not}
 use mathlib.Core.List.{List}
@@ -17,21 +17,20 @@ use lib.Bits.{bitAnd}
 use lib.Dec.{eqb, ltb}
 use lib.ListN.{length, getD, replicate, length-replicate, getD-replicate}
 use Rattle.basis.specs.Test.{_and_, _or_, non}
-use Rattle.basis.proofs.LoopLaws.{and-fails, and-both, or-none, non-holds}
-use Rattle.basis.proofs.BoolLaws.{and-assoc, or-assoc, non-fails, eqb-swap, below-next, amp-and, not-non}
+use Rattle.basis.proofs.BoolLaws.{and-fails, and-both, or-none, non-holds, and-assoc, or-assoc, non-fails, eqb-swap, below-next, amp-and, not-non, by-bool, false-of}
 use Rattle.format.specs.declared.Row.{Row}
 use Rattle.sets.specs.Mask.{slots, mem, full}
 use Rattle.closing.specs.Closure.{taken}
-use Rattle.sets.proofs.BoolLaws.{by-bool, false-of}
 use Rattle.sets.proofs.MaskLaws.{mem-empty, mem-diff, mem-full, full-has, lt-of-members, ext-all}
 use Rattle.closing.proofs.ClosureLaws.{closed-unique}
 use Rattle.cells.specs.Walk.{upTo, picked}
-use Rattle.cells.specs.Cells.{gaining, scatter, placing}
+use Rattle.cells.specs.Cells.{gaining, placing}
 use Rattle.cells.proofs.WalkLaws.{upTo-more, mem-picked}
 use Rattle.cells.proofs.CellsLaws.{gaining-length, gaining-mem, scatter-length, scatter-mem, placing-length}
 use Rattle.tables.specs.Tables.{agentRoom, agentIn, rowIn, pairIn}
 use Rattle.tables.proofs.TablesLaws.{agent-place}
-use Rattle.before.specs.Before.{metIn, laterIn, ownIn, agentsIn, behindIn, ownBy, syncIn, rowGains, rowsIn, pairGains, pairsIn, stepsIn, turnAt, turnedIn, Ordered}
+use Rattle.before.specs.Before.{metIn, laterIn, ownIn, syncIn, syncGains, rowStepsIn, pairGains, pairStepsIn, stepsIn, turnAt, columnsIn, ClosedSteps}
+use Rattle.before.specs.steps.Own.{agentsIn, behindIn, ownBy}
 
 -- ---- masks of events
 
@@ -111,45 +110,45 @@ module _ (t : List ℕ) (n e : ℕ) (few : n ≤ slots) (h : e < n) where
 -- ---- rows
 
 module _ (t : List ℕ) (r : Row) (l : List ℕ) where
-  pub row-gains : syncIn t r ≡ true → rowGains t r l ≡ gaining l (r .writer % slots) (r .reader % slots)
-  unfolding rowGains
+  pub row-gains : syncIn t r ≡ true → syncGains t r l ≡ gaining l (r .writer % slots) (r .reader % slots)
+  unfolding syncGains
   row-gains h = ap (λ (b : Bool). cond b (gaining l (r .writer % slots) (r .reader % slots)) l) h
 
-  pub row-keeps : syncIn t r ≡ false → rowGains t r l ≡ l
-  unfolding rowGains
+  pub row-keeps : syncIn t r ≡ false → syncGains t r l ≡ l
+  unfolding syncGains
   row-keeps h = ap (λ (b : Bool). cond b (gaining l (r .writer % slots) (r .reader % slots)) l) h
 
-  pub row-length : length (rowGains t r l) ≡ length l
+  pub row-length : length (syncGains t r l) ≡ length l
   row-length =
       by-bool (syncIn t r) (λ h. ap length (row-gains h) ∙ gaining-length l (r .writer % slots) (r .reader % slots)) (λ h. ap length (row-keeps h))
 
 module _ (t q l : List ℕ) where
-  pub rows-none : l ≡ rowsIn t q 0 l
-  unfolding rowsIn upTo
+  pub rows-none : l ≡ rowStepsIn t q 0 l
+  unfolding rowStepsIn upTo
   rows-none = refl
 
-  pub rows-more : (j : ℕ) → rowGains t (rowIn q j) (rowsIn t q j l) ≡ rowsIn t q (j + 1) l
-  unfolding rowsIn
-  rows-more j = sym (upTo-more (λ (i : ℕ). rowGains t (rowIn q i)) j l)
+  pub rows-more : (j : ℕ) → syncGains t (rowIn q j) (rowStepsIn t q j l) ≡ rowStepsIn t q (j + 1) l
+  unfolding rowStepsIn
+  rows-more j = sym (upTo-more (λ (i : ℕ). syncGains t (rowIn q i)) j l)
 
-  pub rows-length : (n : ℕ) → length (rowsIn t q n l) ≡ length l
-  unfolding rowsIn upTo
+  pub rows-length : (n : ℕ) → length (rowStepsIn t q n l) ≡ length l
+  unfolding rowStepsIn upTo
   rows-length zero = refl
-  rows-length (suc n) = row-length t (rowIn q n) (upTo (λ (i : ℕ). rowGains t (rowIn q i)) n l) ∙ rows-length n
+  rows-length (suc n) = row-length t (rowIn q n) (upTo (λ (i : ℕ). syncGains t (rowIn q i)) n l) ∙ rows-length n
 
 -- ---- pairs
 
 module _ (p l : List ℕ) where
-  pub pairs-none : l ≡ pairsIn p 0 l
-  unfolding pairsIn upTo
+  pub pairs-none : l ≡ pairStepsIn p 0 l
+  unfolding pairStepsIn upTo
   pairs-none = refl
 
-  pub pairs-more : (j : ℕ) → pairGains (pairIn p j) (pairsIn p j l) ≡ pairsIn p (j + 1) l
-  unfolding pairsIn
+  pub pairs-more : (j : ℕ) → pairGains (pairIn p j) (pairStepsIn p j l) ≡ pairStepsIn p (j + 1) l
+  unfolding pairStepsIn
   pairs-more j = sym (upTo-more (λ (i : ℕ). pairGains (pairIn p i)) j l)
 
-  pub pairs-length : (n : ℕ) → length (pairsIn p n l) ≡ length l
-  unfolding pairsIn upTo
+  pub pairs-length : (n : ℕ) → length (pairStepsIn p n l) ≡ length l
+  unfolding pairStepsIn upTo
   pairs-length zero = refl
   pairs-length (suc n) =
       gaining-length (upTo (λ (i : ℕ). pairGains (pairIn p i)) n l) (pairIn p n .first % slots) (pairIn p n .second % slots) ∙ pairs-length n
@@ -159,7 +158,7 @@ module _ (p l : List ℕ) where
 pub steps-length : (t : List ℕ) (n : ℕ) (q : List ℕ) (m : ℕ) (p : List ℕ) (k : ℕ) (l : List ℕ) → length (stepsIn t n q m p k l) ≡ length l
 unfolding stepsIn
 steps-length t n q m p k l =
-    pairs-length p (rowsIn t q m (placing (ownIn t n) n l)) k ∙ rows-length t q (placing (ownIn t n) n l) m ∙ placing-length (ownIn t n) l n
+    pairs-length p (rowStepsIn t q m (placing (ownIn t n) n l)) k ∙ rows-length t q (placing (ownIn t n) n l) m ∙ placing-length (ownIn t n) l n
 
 -- ---- the columns
 
@@ -187,13 +186,13 @@ module _ (succ : List ℕ) (l : List ℕ) where
       ∙ ap (λ (b : Bool). mem (getD l d 0) e or b) (below-next (λ (i : ℕ). ltb d slots and mem (getD succ i 0) d) k e)
 
   -- pred has exactly the columns of succ, besides what it had
-  pub turned-mem : length l ≡ slots → (n d e : ℕ) → mem (getD (turnedIn succ n l) d 0) e ≡ (mem (getD l d 0) e or (ltb e (taken n succ) and (ltb d slots and mem (getD succ e 0) d)))
-  unfolding turnedIn
-  turned-mem long n d e = turn-mem long (taken n succ) d e
+  pub columns-mem : length l ≡ slots → (n d e : ℕ) → mem (getD (columnsIn succ n l) d 0) e ≡ (mem (getD l d 0) e or (ltb e (taken n succ) and (ltb d slots and mem (getD succ e 0) d)))
+  unfolding columnsIn
+  columns-mem long n d e = turn-mem long (taken n succ) d e
 
 -- ---- two conforming results
 
-pub ordered-unique : (t : List ℕ) (n : ℕ) (q : List ℕ) (m : ℕ) (p : List ℕ) (k : ℕ) (succ pred a b c d : List ℕ) → Ordered t n q m p k succ a pred b
-    → Ordered t n q m p k succ c pred d → (a ≡ c) × (b ≡ d)
-ordered-unique t n q m p k succ pred a b c d o u =
-    let e = closed-unique (o .closed) (u .closed) in (e, o .turned ∙ ap (λ (l : List ℕ). turnedIn l n pred) e ∙ sym (u .turned))
+pub closed-steps-unique : (t : List ℕ) (n : ℕ) (q : List ℕ) (m : ℕ) (p : List ℕ) (k : ℕ) (succ pred a b c d : List ℕ) → ClosedSteps t n q m p k succ a pred b
+    → ClosedSteps t n q m p k succ c pred d → (a ≡ c) × (b ≡ d)
+closed-steps-unique t n q m p k succ pred a b c d o u =
+    let e = closed-unique (o .closed) (u .closed) in (e, o .turned ∙ ap (λ (l : List ℕ). columnsIn l n pred) e ∙ sym (u .turned))

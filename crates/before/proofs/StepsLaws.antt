@@ -4,7 +4,7 @@
 --     owns-mem, rows-mem, pairs-mem      what two events make by themselves; what rows and pairs add
 --     steps-mem            from empty masks: stepsIn holds exactly the steps that stepIn tests
 use mathlib.Core.Path.{_≡_, sym, ap, _∙_}
-use mathlib.Core.Bool.{Bool, true, false, cond}
+use mathlib.Core.Bool.{Bool, cond}
 use mathlib.Core.List.{List}
 use Prim.Native.Nat.{ℕ, zero, suc, _%_, _<_, _≤_}
 use native.Mathlib.Nat.{mod-eq-of-lt}
@@ -14,19 +14,17 @@ use borrow.Author.Tests.{lt-ltb, le-ltb}
 use lib.Dec.{eqb, ltb}
 use lib.ListN.{length, getD, replicate, length-replicate, getD-replicate, List·getD-eq-default}
 use Rattle.basis.specs.Test.{_and_, _or_, any, from}
-use Rattle.basis.proofs.LoopLaws.{and-holds, and-fails, or-none}
-use Rattle.basis.proofs.BoolLaws.{and-false, and-true, or-assoc}
+use Rattle.basis.proofs.BoolLaws.{and-holds, and-fails, or-none, and-false, and-true, or-assoc, by-bool}
+use Rattle.basis.proofs.LoopLaws.{any-next}
 use Rattle.sets.specs.Mask.{slots, mem}
-use Rattle.sets.proofs.BoolLaws.{by-bool}
 use Rattle.sets.proofs.MaskLaws.{mem-empty}
-use Rattle.cells.specs.Walk.{upTo, picked}
+use Rattle.cells.specs.Walk.{upTo}
 use Rattle.cells.specs.Cells.{gaining, placing}
 use Rattle.cells.proofs.WalkLaws.{mem-picked}
 use Rattle.cells.proofs.CellsLaws.{gaining-mem, gaining-length, placing-length, placing-at, placing-beyond}
-use Rattle.basis.proofs.FindLaws.{any-next}
 use Rattle.tables.specs.Tables.{agentIn, rowIn, pairIn}
 use Rattle.tables.proofs.TablesLaws.{reader-slot, writer-slot, first-slot, second-slot}
-use Rattle.before.specs.Before.{metIn, laterIn, ownIn, syncIn, rowGains, rowsIn, pairGains, pairsIn, stepsIn, directIn, rowStep, pairStep, stepIn}
+use Rattle.before.specs.Before.{metIn, laterIn, ownIn, syncIn, syncGains, rowStepsIn, pairGains, pairStepsIn, stepsIn, directIn, rowStep, pairStep, stepIn}
 use Rattle.before.proofs.BeforeLaws.{own-init, own-other, row-gains, row-keeps, row-length, rows-length}
 
 -- ---- masks that each number of a loop adds to
@@ -51,7 +49,7 @@ module _ (e d : ℕ) (f : ℕ → List ℕ → List ℕ) (P : ℕ → Bool) (a :
 -- ---- rows, pairs
 
 module _ (t q : List ℕ) (e d : ℕ) where
-  row-has : (j : ℕ) (l : List ℕ) → length l ≡ slots → mem (getD (rowGains t (rowIn q j) l) e 0) d ≡ (mem (getD l e 0) d or rowStep t e d (rowIn q j))
+  row-has : (j : ℕ) (l : List ℕ) → length l ≡ slots → mem (getD (syncGains t (rowIn q j) l) e 0) d ≡ (mem (getD l e 0) d or rowStep t e d (rowIn q j))
   unfolding rowStep
   row-has j l h =
       let r = rowIn q j in
@@ -67,12 +65,12 @@ module _ (t q : List ℕ) (e d : ℕ) where
       (λ s. ap (λ (z : List ℕ). mem (getD z e 0) d) (row-keeps t r l s)
       ∙ sym (ap o (ap (λ (z : Bool). a and z) (ap (λ (z : Bool). b and z) s ∙ and-false b) ∙ and-false a) ∙ or-none (mem (getD l e 0) d)))
 
-  rows-add : Adds e d (λ (j : ℕ). rowGains t (rowIn q j)) (λ (j : ℕ). rowStep t e d (rowIn q j))
+  rows-add : Adds e d (λ (j : ℕ). syncGains t (rowIn q j)) (λ (j : ℕ). rowStep t e d (rowIn q j))
   rows-add = record { size = λ j l. row-length t (rowIn q j) l; has = row-has }
 
-  pub rows-mem : (l : List ℕ) (m : ℕ) → length l ≡ slots → mem (getD (rowsIn t q m l) e 0) d ≡ (mem (getD l e 0) d or any (λ (j : ℕ). rowStep t e d (rowIn q j)) (from 0 m))
-  unfolding rowsIn
-  rows-mem l m h = grown-mem e d (λ (j : ℕ). rowGains t (rowIn q j)) (λ (j : ℕ). rowStep t e d (rowIn q j)) rows-add l h m
+  pub rows-mem : (l : List ℕ) (m : ℕ) → length l ≡ slots → mem (getD (rowStepsIn t q m l) e 0) d ≡ (mem (getD l e 0) d or any (λ (j : ℕ). rowStep t e d (rowIn q j)) (from 0 m))
+  unfolding rowStepsIn
+  rows-mem l m h = grown-mem e d (λ (j : ℕ). syncGains t (rowIn q j)) (λ (j : ℕ). rowStep t e d (rowIn q j)) rows-add l h m
 
 module _ (p : List ℕ) (e d : ℕ) where
   pair-has : (j : ℕ) (l : List ℕ) → length l ≡ slots → mem (getD (pairGains (pairIn p j) l) e 0) d ≡ (mem (getD l e 0) d or pairStep e d (pairIn p j))
@@ -87,8 +85,8 @@ module _ (p : List ℕ) (e d : ℕ) where
   pairs-add : Adds e d (λ (j : ℕ). pairGains (pairIn p j)) (λ (j : ℕ). pairStep e d (pairIn p j))
   pairs-add = record { size = λ j l. gaining-length l (pairIn p j .first % slots) (pairIn p j .second % slots); has = pair-has }
 
-  pub pairs-mem : (l : List ℕ) (k : ℕ) → length l ≡ slots → mem (getD (pairsIn p k l) e 0) d ≡ (mem (getD l e 0) d or any (λ (j : ℕ). pairStep e d (pairIn p j)) (from 0 k))
-  unfolding pairsIn
+  pub pairs-mem : (l : List ℕ) (k : ℕ) → length l ≡ slots → mem (getD (pairStepsIn p k l) e 0) d ≡ (mem (getD l e 0) d or any (λ (j : ℕ). pairStep e d (pairIn p j)) (from 0 k))
+  unfolding pairStepsIn
   pairs-mem l k h = grown-mem e d (λ (j : ℕ). pairGains (pairIn p j)) (λ (j : ℕ). pairStep e d (pairIn p j)) pairs-add l h k
 
 -- ---- what two events make by themselves
@@ -124,6 +122,6 @@ module _ (t : List ℕ) (n : ℕ) (few : n ≤ slots) (e d : ℕ) where
   steps-mem q m p k =
       let l = placing (ownIn t n) n (replicate slots 0) in
       let long : length l ≡ slots = placing-length (ownIn t n) (replicate slots 0) n ∙ length-replicate {A = ℕ} slots 0 in
-      pairs-mem p e d (rowsIn t q m l) k (rows-length t q l m ∙ long)
+      pairs-mem p e d (rowStepsIn t q m l) k (rows-length t q l m ∙ long)
       ∙ ap (λ (b : Bool). b or any (λ (j : ℕ). pairStep e d (pairIn p j)) (from 0 k))
       (rows-mem t q e d l m long ∙ ap (λ (b : Bool). b or any (λ (j : ℕ). rowStep t e d (rowIn q j)) (from 0 m)) owns-mem)

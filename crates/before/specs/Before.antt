@@ -2,25 +2,23 @@
 --     meetsIn t e d             an access of e and one of d share a byte           metIn t e d      and d is another event
 --     laterIn t e d             d is a later event of e's agent
 --     ownIn t n e               an init's mask: what it meets; another event's: what is later
---     agentsIn, behindIn, ownBy     the same by a mask for each agent
 --     syncIn t r                the row's two accesses at its byte are both sc with equal ranges
---     rowsIn, pairsIn           the masks with the steps of the first rows, of the first pairs
---     stepsIn                   all direct steps                                   turnedIn         the masks with the columns
---     Ordered                   the direct steps, closed, and their columns
+--     rowStepsIn, pairStepsIn   the masks with the steps of the first rows, of the first pairs
+--     stepsIn                   all direct steps                                   columnsIn        the masks with the columns
+--     ClosedSteps               the direct steps, closed, and their columns
 --     directIn, stepIn          the same of two events, as a test: what they make by themselves, and any direct step
 -- Assumes nothing.
 use mathlib.Core.Path.{_≡_}
 use mathlib.Core.Bool.{Bool, cond}
 use mathlib.Core.List.{List}
-use Prim.Native.Nat.{ℕ, _+_, _-_, _%_, _^_, min}
-use lib.Bits.{bitAnd}
+use Prim.Native.Nat.{ℕ, _%_}
 use lib.Dec.{eqb, ltb}
 use lib.ListN.{getD}
 use Rattle.basis.specs.Test.{_and_, _or_, non, any, from}
 use Rattle.format.specs.declared.Row.{Row}
 use Rattle.format.specs.declared.Pair.{Pair}
 use Rattle.format.specs.Shape.{overlap, bothSc}
-use Rattle.sets.specs.Mask.{slots, full}
+use Rattle.sets.specs.Mask.{slots}
 use Rattle.closing.specs.Closure.{taken, Closed}
 use Rattle.cells.specs.Walk.{upTo, picked}
 use Rattle.cells.specs.Cells.{gaining, scatter, placing}
@@ -40,47 +38,37 @@ laterIn t e d = eqb (agentIn t e) (agentIn t d) and ltb e d
 unfoldable pub ownIn : List ℕ → ℕ → ℕ → ℕ
 ownIn t n e = cond (eqb (agentIn t e) 0) (picked n (metIn t e)) (picked n (laterIn t e))
 
--- the same by masks: each agent's events, and those of e's agent behind e
-unfoldable pub agentsIn : List ℕ → ℕ → List ℕ → List ℕ
-agentsIn t n l = upTo (λ (e : ℕ) (m : List ℕ). gaining m (agentIn t e) e) n l
-
-unfoldable pub behindIn : List ℕ → List ℕ → ℕ → ℕ
-behindIn t by e = bitAnd (getD by (agentIn t e) 0) (2 ^ slots - 1 - full (min (e + 1) slots))
-
-unfoldable pub ownBy : List ℕ → ℕ → List ℕ → ℕ → ℕ
-ownBy t n by e = cond (eqb (agentIn t e) 0) (picked n (metIn t e)) (behindIn t by e)
-
 -- ---- what rows and pairs add
 
 unfoldable pub syncIn : List ℕ → Row → Bool
 syncIn t r = bothSc (atIn t (r .writer % slots) (r .address)) (atIn t (r .reader % slots) (r .address))
 
-unfoldable pub rowGains : List ℕ → Row → List ℕ → List ℕ
-rowGains t r l = cond (syncIn t r) (gaining l (r .writer % slots) (r .reader % slots)) l
+unfoldable pub syncGains : List ℕ → Row → List ℕ → List ℕ
+syncGains t r l = cond (syncIn t r) (gaining l (r .writer % slots) (r .reader % slots)) l
 
-unfoldable pub rowsIn : List ℕ → List ℕ → ℕ → List ℕ → List ℕ
-rowsIn t q n l = upTo (λ (j : ℕ). rowGains t (rowIn q j)) n l
+unfoldable pub rowStepsIn : List ℕ → List ℕ → ℕ → List ℕ → List ℕ
+rowStepsIn t q n l = upTo (λ (j : ℕ). syncGains t (rowIn q j)) n l
 
 abbrev pub pairGains : Pair → List ℕ → List ℕ
 pairGains p l = gaining l (p .first % slots) (p .second % slots)
 
-unfoldable pub pairsIn : List ℕ → ℕ → List ℕ → List ℕ
-pairsIn p n l = upTo (λ (j : ℕ). pairGains (pairIn p j)) n l
+unfoldable pub pairStepsIn : List ℕ → ℕ → List ℕ → List ℕ
+pairStepsIn p n l = upTo (λ (j : ℕ). pairGains (pairIn p j)) n l
 
 -- ---- the whole
 
 unfoldable pub stepsIn : List ℕ → ℕ → List ℕ → ℕ → List ℕ → ℕ → List ℕ → List ℕ
-stepsIn t n q m p k l = pairsIn p k (rowsIn t q m (placing (ownIn t n) n l))
+stepsIn t n q m p k l = pairStepsIn p k (rowStepsIn t q m (placing (ownIn t n) n l))
 
 abbrev pub turnAt : List ℕ → ℕ → List ℕ → List ℕ
 turnAt succ e l = scatter l (getD succ e 0) e
 
-unfoldable pub turnedIn : List ℕ → ℕ → List ℕ → List ℕ
-turnedIn succ n l = upTo (turnAt succ) (taken n succ) l
+unfoldable pub columnsIn : List ℕ → ℕ → List ℕ → List ℕ
+columnsIn succ n l = upTo (turnAt succ) (taken n succ) l
 
-pub record Ordered (t : List ℕ) (n : ℕ) (q : List ℕ) (m : ℕ) (p : List ℕ) (k : ℕ) (succ succ′ pred pred′ : List ℕ) : Type 0 where
+pub record ClosedSteps (t : List ℕ) (n : ℕ) (q : List ℕ) (m : ℕ) (p : List ℕ) (k : ℕ) (succ succ′ pred pred′ : List ℕ) : Type 0 where
   pub closed : Closed (taken n (stepsIn t n q m p k succ)) (stepsIn t n q m p k succ) succ′
-  pub turned : pred′ ≡ turnedIn succ′ n pred
+  pub turned : pred′ ≡ columnsIn succ′ n pred
 
 -- ---- the same, event by event
 

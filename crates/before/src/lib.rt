@@ -19,7 +19,8 @@ ghost use Rattle.sets.specs.Mask.{slots};
 ghost use Rattle.cells.specs.Walk.{picked};
 ghost use Rattle.cells.specs.Cells.{placing};
 ghost use Rattle.tables.specs.Tables.{rowRoom, pairRoom};
-ghost use Rattle.before.specs.Before.{meetsIn, metIn, ownIn, agentsIn, behindIn, ownBy, syncIn, rowGains, rowsIn, pairGains, pairsIn, stepsIn, turnedIn, Ordered};
+ghost use Rattle.before.specs.Before.{meetsIn, metIn, ownIn, syncIn, syncGains, rowStepsIn, pairGains, pairStepsIn, stepsIn, columnsIn, ClosedSteps};
+ghost use Rattle.before.specs.steps.Own.{agentsIn, behindIn, ownBy};
 
 // ---- what two events make by themselves
 
@@ -110,7 +111,7 @@ fn syncs(t: &[u8; COLUMNS], r: Row) -> bool
     ensures { λ b. ⌜ b ≡ syncIn (now (t .entry)) r ⌝ }
 {
     let w = tables::at(t, r.writer as usize, r.address);
-    if w.mode != 2 {
+    if !access::sc(w) {
         return false;
     }
     access::both_sc(w, tables::at(t, r.reader as usize, r.address))
@@ -118,7 +119,7 @@ fn syncs(t: &[u8; COLUMNS], r: Row) -> bool
 
 // The row's writer leads to its reader, where the two synchronise.
 fn add_row(t: &[u8; COLUMNS], r: Row, succ: &mut [u32])
-    ensures { λ _. ⌜ now (succ .exit) ≡ rowGains (now (t .entry)) r (now (succ .entry)) ⌝ }
+    ensures { λ _. ⌜ now (succ .exit) ≡ syncGains (now (t .entry)) r (now (succ .entry)) ⌝ }
 {
     if !syncs(t, r) {
         return;
@@ -128,7 +129,7 @@ fn add_row(t: &[u8; COLUMNS], r: Row, succ: &mut [u32])
 
 // The steps of the first n rows; n counts up to the rows that have a place.
 fn add_rows(t: &[u8; COLUMNS], q: &[u8; ROW_CELLS], n: usize, succ: &mut [u32])
-    ensures { λ _. ⌜ now (succ .exit) ≡ rowsIn (now (t .entry)) (now (q .entry)) (min n rowRoom) (now (succ .entry)) ⌝ }
+    ensures { λ _. ⌜ now (succ .exit) ≡ rowStepsIn (now (t .entry)) (now (q .entry)) (min n rowRoom) (now (succ .entry)) ⌝ }
 {
     let m = least(n, ROWS);
     for j in 0..m {
@@ -145,7 +146,7 @@ fn add_pair(p: Pair, succ: &mut [u32])
 
 // The steps of the first n pairs; n counts up to the pairs that have a place.
 fn add_pairs(p: &[u8; PAIR_CELLS], n: usize, succ: &mut [u32])
-    ensures { λ _. ⌜ now (succ .exit) ≡ pairsIn (now (p .entry)) (min n pairRoom) (now (succ .entry)) ⌝ }
+    ensures { λ _. ⌜ now (succ .exit) ≡ pairStepsIn (now (p .entry)) (min n pairRoom) (now (succ .entry)) ⌝ }
 {
     let m = least(n, PAIRS);
     for j in 0..m {
@@ -174,7 +175,7 @@ fn steps(
 
 // pred[d] gains e, for each of the first n events e and each d that e leads to; n counts up to the slots and the rows there are.
 fn turn(succ: &[u32], n: usize, pred: &mut [u32])
-    ensures { λ _. ⌜ now (pred .exit) ≡ turnedIn (now (succ .entry)) n (now (pred .entry)) ⌝ }
+    ensures { λ _. ⌜ now (pred .exit) ≡ columnsIn (now (succ .entry)) n (now (pred .entry)) ⌝ }
 {
     let m = least(n, least(SLOTS, succ.len()));
     for e in 0..m {
@@ -193,7 +194,7 @@ pub fn fill(
     succ: &mut [u32],
     pred: &mut [u32],
 )
-    ensures { λ _. ⌜ Ordered (now (t .entry)) (min events slots) (now (q .entry)) (min rows rowRoom) (now (p .entry)) (min pairs pairRoom) (now (succ .entry)) (now (succ .exit)) (now (pred .entry)) (now (pred .exit)) ⌝ }
+    ensures { λ _. ⌜ ClosedSteps (now (t .entry)) (min events slots) (now (q .entry)) (min rows rowRoom) (now (p .entry)) (min pairs pairRoom) (now (succ .entry)) (now (succ .exit)) (now (pred .entry)) (now (pred .exit)) ⌝ }
 {
     let n = least(events, SLOTS);
     steps(t, n, q, rows, p, pairs, succ);

@@ -16,11 +16,9 @@ use lib.Dec.{eqb, ltb}
 use lib.ListN.{length, getD, set, length-set}
 use lib.Seq.{getD-set-same, getD-set-other, set-out}
 use Rattle.basis.specs.Test.{_and_, _or_}
-use Rattle.basis.proofs.LoopLaws.{and-holds, and-both, or-holds, or-either, or-none, or-second, and-fails}
-use Rattle.basis.proofs.BoolLaws.{or-assoc, and-swap, below-next}
+use Rattle.basis.proofs.BoolLaws.{and-holds, and-both, or-holds, or-either, or-none, or-second, and-fails, or-assoc, and-swap, below-next, by-bool, bool-ext}
 use Rattle.cells.proofs.WalkLaws.{upTo-more}
 use Rattle.sets.specs.Mask.{slots, mem, Has, insert}
-use Rattle.sets.proofs.BoolLaws.{by-bool, bool-ext}
 use Rattle.sets.proofs.MaskLaws.{insert-new, insert-old, insert-cases}
 use Rattle.cells.specs.Walk.{upTo, onlyOf, over}
 use Rattle.cells.specs.Cells.{gaining, gainAt, spread, gainOne, scatter, putAt, placing}
@@ -58,12 +56,8 @@ pub gaining-mem : (l : List ℕ) (i e j q : ℕ) → i < length l → mem (getD 
 unfolding _or_
 gaining-mem l i e j q b =
     bool-ext (mem (getD (gaining l i e) j 0) q) (mem (getD l j 0) q or (eqb i j and eqb e q))
-    (λ h. ⊎-elim (λ c. or-holds _ (eqb i j and eqb e q) c) (λ c. join (mem (getD l j 0) q) (and-holds (eqb i j) (eqb e q) (eq-eqb i j (c .0)) ∙ eq-eqb e q (c .1))) (gaining-elim l i e j q b h))
+    (λ h. ⊎-elim (λ c. or-holds _ (eqb i j and eqb e q) c) (λ c. or-second (mem (getD l j 0) q) _ (and-holds (eqb i j) (eqb e q) (eq-eqb i j (c .0)) ∙ eq-eqb e q (c .1))) (gaining-elim l i e j q b h))
     (λ h. ⊎-elim (λ c. gaining-old l i e j q b c) (λ c. let p = and-both (eqb i j) (eqb e q) c in subst (λ (x : ℕ). Has (getD (gaining l i e) j 0) x) (eqb-true e q (p .1)) (subst (λ (x : ℕ). Has (getD (gaining l i e) x 0) e) (eqb-true i j (p .0)) (gaining-put l i e b))) (or-either (mem (getD l j 0) q) (eqb i j and eqb e q) h))
-  where
-    join : (a : Bool) {c : Bool} → c ≡ true → (a or c) ≡ true
-    join true p = refl
-    join false p = p
 
 -- wherever the mask that gains stands
 module _ (l : List ℕ) (i e a v : ℕ) (inside : a < length l) where

@@ -3,24 +3,22 @@
 --     first-found, first-none     what a loop answers            first-find                 as a search through a list
 --     first-or            of two tests together
 --     first-past, first-below     a loop that has come to the end or beyond; two tests that agree below n
---     lowest-first        the lowest of a set is its first member
 --     Left, left-start, left-lowest, left-hit, left-next, left-end     a loop over the members of a set, for the first that passes
-use mathlib.Core.Path.{_≡_, refl, sym, ap, _∙_, subst}
+use mathlib.Core.Path.{_≡_, sym, ap, _∙_, subst}
 use mathlib.Core.Bool.{Bool, true, false, cond}
 use mathlib.Core.Logic.{⊎-elim}
 use mathlib.Core.Option.{none, some}
 use Prim.Native.Nat.{ℕ, zero, suc, _^_, _≤_, _<_, min}
 use native.Mathlib.Omega.{arith}
-use native.Mathlib.Decide.{decLt, ℕ-discrete}
+use native.Mathlib.Decide.{decLt}
 use borrow.Author.Tests.{ltb-true, ltb-false}
 use lib.Dec.{ltb}
 use Rattle.basis.specs.Test.{_and_, _or_, find, from}
-use Rattle.basis.proofs.LoopLaws.{and-holds, and-both, or-holds, or-fails}
+use Rattle.basis.proofs.BoolLaws.{and-holds, and-both, or-holds, or-fails, or-second, by-bool, not-both-ways, false-of}
+use Rattle.basis.proofs.FindLaws.{find-at, find-no}
 use Rattle.sets.specs.Mask.{slots, mem, Has, remove, Lowest}
-use Rattle.sets.proofs.BoolLaws.{by-bool, not-both-ways, false-of}
 use Rattle.sets.proofs.MaskLaws.{mem-empty, mem-lt, remove-le, remove-old, remove-cases}
 use Rattle.cells.specs.First.{firstOf, First}
-use Rattle.basis.proofs.FindLaws.{find-at, find-no}
 
 module _ (p : ℕ → Bool) where
   pub first-unique : (n a b : ℕ) → First p n a → First p n b → a ≡ b
@@ -83,15 +81,11 @@ first-or p q n =
       least = λ d h. or-fails (p d) (q d) (f .least d (omega arith)) ∙ g .least d (omega arith);
     })
   where
-    join : (a : Bool) {b : Bool} → b ≡ true → (a or b) ≡ true
-    join true h = refl
-    join false h = h
-
     either : First p n (firstOf p n) → First q n (firstOf q n) → Dec (firstOf q n < firstOf p n) → min (firstOf p n) (firstOf q n) < n
         → (p (min (firstOf p n) (firstOf q n)) or q (min (firstOf p n) (firstOf q n))) ≡ true
     either f g (yes k) h =
         let e : min (firstOf p n) (firstOf q n) ≡ firstOf q n = omega arith in
-        subst (λ (x : ℕ). (p x or q x) ≡ true) (sym e) (join (p (firstOf q n)) (g .passes (omega arith)))
+        subst (λ (x : ℕ). (p x or q x) ≡ true) (sym e) (or-second (p (firstOf q n)) _ (g .passes (omega arith)))
     either f g (no k) h =
         let e : min (firstOf p n) (firstOf q n) ≡ firstOf p n = omega (arith, k) in
         subst (λ (x : ℕ). (p x or q x) ≡ true) (sym e) (or-holds (p (firstOf p n)) (q (firstOf p n)) (f .passes (omega arith)))
@@ -111,16 +105,6 @@ first-below p q n k few same =
     })
 
 -- ---- the members of a set
-
-pub lowest-first : (m v : ℕ) → m < 2 ^ slots → Lowest m v → v ≡ firstOf (mem m) slots
-lowest-first m v w low = go (ℕ-discrete m 0)
-  where
-    go : Dec (m ≡ 0) → v ≡ firstOf (mem m) slots
-    go (yes e) = let z = low .none e in first-is (mem m) (record { within = omega arith; passes = λ h. absurd (omega arith); least = low .least })
-    go (no e) =
-        let h = low .member (omega (arith, e)) in
-        let z = mem-lt slots m v w h in
-        first-is (mem m) (record { within = omega arith; passes = λ k. h; least = low .least })
 
 -- left has the members of m of which nothing is known yet: those that are gone do not pass
 pub record Left (g : ℕ → Bool) (m left : ℕ) : Type 0 where

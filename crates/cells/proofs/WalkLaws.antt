@@ -3,23 +3,22 @@
 --     stand-start, stand-lowest, stand-next, stand-end     it begins; what it takes; a turn; nothing is left
 --     upTo-more                                 a turn of a loop over numbers
 --     picked-none, picked-in, picked-out        a loop that gathers the numbers that pass
---     mem-picked, picked-nothing, picked-lt     what it has gathered
+--     mem-picked                                what it has gathered
 --     over-picked                               the same by a loop over the members of a set that has all that pass
 use mathlib.Core.Path.{_≡_, refl, sym, ap, _∙_, subst}
-use mathlib.Core.Bool.{Bool, true, false, cond, not, _&&_}
-use mathlib.Core.Logic.{_⊎_, ⊎-elim}
+use mathlib.Core.Bool.{Bool, true, false, cond}
+use mathlib.Core.Logic.{⊎-elim}
 use Prim.Native.Nat.{ℕ, zero, suc, _+_, _-_, _^_, _≤_, _<_}
 use native.Mathlib.Nat.{add-suc}
 use native.Mathlib.Numerals.{add-one}
 use native.Mathlib.Omega.{arith}
 use native.Mathlib.Decide.{ℕ-discrete, decLt}
-use borrow.Author.Tests.{eq-eqb, lt-ltb, ltb-true}
+use borrow.Author.Tests.{lt-ltb, ltb-true}
 use lib.Dec.{eqb, ltb}
 use Rattle.basis.specs.Test.{_and_}
-use Rattle.basis.proofs.LoopLaws.{and-holds, and-both}
+use Rattle.basis.proofs.BoolLaws.{and-holds, and-both, cond-and, by-bool, bool-ext, not-both-ways, not-both, eqb-self}
 use Rattle.sets.specs.Mask.{slots, mem, Has, insert, remove, Lowest}
-use Rattle.sets.proofs.BoolLaws.{by-bool, bool-ext, not-both-ways}
-use Rattle.sets.proofs.MaskLaws.{mem-empty, mem-lt, mem-remove, remove-old, remove-cases, remove-lt, insert-cases, insert-old, insert-new, lt-of-members, ext-all}
+use Rattle.sets.proofs.MaskLaws.{mem-empty, mem-lt, mem-remove, remove-old, remove-cases, remove-lt, insert-cases, insert-old, insert-new, ext-all}
 use Rattle.cells.specs.Walk.{upTo, onlyOf, over, taking, picked}
 
 module _ {A : Type 0} where
@@ -92,11 +91,7 @@ module _ {A : Type 0} where
               go (yes e) g = absurd (not-both-ways (subst (λ (x : ℕ). Has (remove left v) x) e p) (gone e))
                 where
                   gone : d ≡ v → mem (remove left v) v ≡ false
-                  gone z = mem-remove left v v ∙ taken (mem left v) (eqb v v) (eq-eqb v v refl)
-                    where
-                      taken : (a c : Bool) → c ≡ true → (a && not c) ≡ false
-                      taken true c q = ap not q
-                      taken false c q = refl
+                  gone z = mem-remove left v v ∙ not-both (mem left v) (eqb v v) (λ h. eqb-self v)
               go (no e) (yes g) = absurd (not-both-ways (remove-old left v d p) (low .least d g))
               go (no e) (no g) = omega (arith, e, g)
 
@@ -157,14 +152,6 @@ mem-picked n f d =
     (λ h. let k = picked-facts n f d .0 h in and-holds (ltb d n) (f d) (lt-ltb d n (k .0)) ∙ k .1)
     (λ h. let k = and-both (ltb d n) (f d) h in picked-facts n f d .1 (ltb-true d n (k .0)) (k .1))
 
-pub picked-nothing : (n : ℕ) (f : ℕ → Bool) → ((d : ℕ) → f d ≡ false) → 0 ≡ picked n f
-unfolding picked upTo
-picked-nothing zero f h = refl
-picked-nothing (suc n) f h = picked-nothing n f h ∙ sym (ap (λ (c : Bool). cond c (insert (upTo (taking f) n 0) n) (upTo (taking f) n 0)) (h n))
-
-pub picked-lt : (n : ℕ) (f : ℕ → Bool) → picked n f < 2 ^ n
-picked-lt n f = lt-of-members n (picked n f) (λ e h. picked-facts n f e .0 h .0)
-
 -- ---- the members of a set that pass
 
 upTo-same : {A : Type 0} (f g : ℕ → A → A) → ((v : ℕ) (b : A) → f v b ≡ g v b) → (n : ℕ) (b : A) → upTo f n b ≡ upTo g n b
@@ -172,17 +159,12 @@ unfolding upTo
 upTo-same f g h zero b = refl
 upTo-same f g h (suc n) b = h n (upTo f n b) ∙ ap (g n) (upTo-same f g h n b)
 
-two-tests : (x y : Bool) (a b : ℕ) → cond x (cond y a b) b ≡ cond (x and y) a b
-unfolding _and_
-two-tests true y a b = refl
-two-tests false y a b = refl
-
 -- a loop over the members that takes those that pass, of numbers below n all that pass are members: it takes all of those below n
 pub over-picked : (n m : ℕ) (f : ℕ → Bool) → n ≤ slots → ((d : ℕ) → mem m d ≡ true → d < n) → ((d : ℕ) → d < n → f d ≡ true → mem m d ≡ true)
     → over m (taking f) 0 ≡ picked n f
 unfolding over picked
 over-picked n m f few inside whole =
-    upTo-same (onlyOf m (taking f)) (taking (λ (v : ℕ). mem m v and f v)) (λ v b. two-tests (mem m v) (f v) (insert b v) b) slots 0
+    upTo-same (onlyOf m (taking f)) (taking (λ (v : ℕ). mem m v and f v)) (λ v b. cond-and (mem m v) (f v) (insert b v) b) slots 0
     ∙ ext-all (picked slots (λ (v : ℕ). mem m v and f v)) (picked n f)
     (λ d. mem-picked slots (λ (v : ℕ). mem m v and f v) d ∙ bool-ext (ltb d slots and (mem m d and f d)) (ltb d n and f d) (forth d) (back d) ∙ sym (mem-picked n f d))
   where

@@ -18,11 +18,11 @@ use borrow.Author.Tests.{ne-eqb}
 use lib.ListN.{length, getD, drop}
 use lib.Seq.{getD-drop, ext-getD}
 use lib.Bits.{bitOr}
+use Rattle.basis.proofs.BoolLaws.{bool-ext, by-bool, eqb-self, bar-cases, bar-left, bar-right, and-parts}
 use Rattle.sets.specs.Mask.{mem, Has, pick, insert}
 use Rattle.closing.specs.Closure.{Reach, Square, Closed}
 use Rattle.closing.specs.Closure.Reach.{step, more}
 use Rattle.closing.specs.Sweep.{absorb, Swept}
-use Rattle.sets.proofs.BoolLaws.{bool-ext, by-bool, eqb-self, or-cases, or-left, or-right, and-parts}
 use Rattle.sets.proofs.MaskLaws.{ext, ext-all, mem-beyond, mem-insert, insert-lt, mem-or, mem-lt, lt-of-members}
 
 -- ---- one row after a pivot
@@ -74,15 +74,15 @@ module _ (n k : ℕ) (r₀ r r′ : List ℕ) (kn : k < n) (S : Stage n k r₀ r
   row-is e d l = ap (λ (s : ℕ). mem s d) (W .each e l) ∙ mem-absorb (getD r e 0) k (getD r k 0) d
 
   old : (e d : ℕ) → e < n → Leads r e d → Leads r′ e d
-  old e d l h = row-is e d l ∙ or-left (mem (getD r e 0) d) (mem (getD r e 0) k && mem (getD r k 0) d) h
+  old e d l h = row-is e d l ∙ bar-left (mem (getD r e 0) d) (mem (getD r e 0) k && mem (getD r k 0) d) h
 
   new : (e d : ℕ) → e < n → Leads r e k → Leads r k d → Leads r′ e d
-  new e d l a b = row-is e d l ∙ or-right (mem (getD r e 0) d) (mem (getD r e 0) k && mem (getD r k 0) d) (ap₂ (λ (x y : Bool). x && y) a b)
+  new e d l a b = row-is e d l ∙ bar-right (mem (getD r e 0) d) (mem (getD r e 0) k && mem (getD r k 0) d) (ap₂ (λ (x y : Bool). x && y) a b)
 
   cases : (e d : ℕ) → e < n → Leads r′ e d → Leads r e d ⊎ (Leads r e k × Leads r k d)
   cases e d l h =
       ⊎-elim (λ a. inl a) (λ b. inr (and-parts (mem (getD r e 0) k) (mem (getD r k 0) d) b))
-      (or-cases (mem (getD r e 0) d) (mem (getD r e 0) k && mem (getD r k 0) d) (sym (row-is e d l) ∙ h))
+      (bar-cases (mem (getD r e 0) d) (mem (getD r e 0) k && mem (getD r k 0) d) (sym (row-is e d l) ∙ h))
 
   -- through an earlier pivot p, and through k
   through-old : (p : ℕ) → p < k → (e d : ℕ) → e < n → Leads r′ e p → Leads r′ p d → Leads r′ e d

@@ -13,7 +13,7 @@ use Prim.Native.Nat.{ℕ, _<_, _≤_}
 use borrow.Author.Tests.{eqb-true, eqb-false, eq-eqb, leb-true, leb-false, ltb-true, le-leb}
 use lib.Dec.{T, eqb, ltb, leb}
 use Rattle.basis.specs.Test.{_and_, _or_, non}
-use Rattle.basis.proofs.LoopLaws.{true-T, T-true, and-both, or-either, or-holds, or-second, cond-cases, non-true, non-holds, both-hold}
+use Rattle.basis.proofs.BoolLaws.{true-T, T-true, and-both, or-either, or-holds, or-second, cond-cases, non-true, non-holds, both-hold}
 use Rattle.format.specs.declared.Head.{Head}
 use Rattle.format.specs.declared.Shape.{Shape}
 use Rattle.format.specs.declared.Row.{Row}

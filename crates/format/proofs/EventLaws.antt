@@ -9,7 +9,7 @@ use Prim.Native.Nat.{ℕ, _-_}
 use lib.Dec.{leb·zero, leb·suc-zero}
 use lib.ListN.{getD}
 use Rattle.basis.specs.Test.{_and_, any}
-use Rattle.basis.proofs.LoopLaws.{or-none}
+use Rattle.basis.proofs.BoolLaws.{or-none}
 use Rattle.format.specs.declared.Shape.{Shape}
 use Rattle.format.specs.Shape.{noShape, reads, writes, marks, covers, overlap}
 use Rattle.format.specs.Event.{Access, Event, nothing, nobody, lookup, accessAt, shapeAt, readsAt, writesAt, saw, wrote, readsSome, isMarker, meets}

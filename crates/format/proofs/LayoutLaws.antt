@@ -13,8 +13,7 @@ use lib.Dec.{eqb, ltb, leb}
 use lib.ListN.{getD, take, drop}
 use lib.Seq.{getD-take, getD-drop}
 use Rattle.basis.specs.Test.{_and_}
-use Rattle.basis.proofs.TestLaws.{and-elim}
-use Rattle.basis.proofs.LoopLaws.{true-T, T-true, or-either}
+use Rattle.basis.proofs.BoolLaws.{and-elim, true-T, T-true, or-either}
 use Rattle.basis.proofs.ListLaws.{part-front}
 use Rattle.format.specs.declared.Shape.{Shape}
 use Rattle.format.specs.Shape.{reads, covers}

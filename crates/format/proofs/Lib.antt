@@ -1,2 +1,4 @@
 pub mod EventLaws
 pub mod LayoutLaws
+pub mod ShapeLaws
+pub mod ExecutionLaws

@@ -4,34 +4,31 @@
 --     barred          the table of masks holds the model's bars
 use mathlib.Core.Path.{_≡_, refl, sym, ap, _∙_, subst}
 use mathlib.Core.Bool.{Bool, true, false}
-use mathlib.Core.Logic.{_⊎_, ⊎-elim}
+use mathlib.Core.Logic.{⊎-elim}
 use mathlib.Core.List.{List, List·Memᴰ}
-use Prim.Native.Nat.{ℕ, suc, _+_, _*_, _<_, _≤_}
+use Prim.Native.Nat.{ℕ, _+_, _*_, _<_, _≤_}
 use native.Mathlib.Omega.{arith}
 use borrow.Author.Tests.{lt-ltb, ltb-false}
 use lib.Dec.{T, eqb, ltb}
 use lib.ListN.{getD, replicate}
-use Rattle.basis.specs.Test.{_and_, _or_, non, any, each, from}
-use Rattle.basis.proofs.TestLaws.{and-elim, and-intro, or-cases, or-left, or-right, same-test}
-use Rattle.basis.proofs.LoopLaws.{T-true, and-holds, and-fails}
+use Rattle.basis.specs.Test.{_and_, _or_, non, any, from}
+use Rattle.basis.proofs.BoolLaws.{and-elim, and-intro, or-cases, or-left, or-right, same-test, T-true, and-holds, and-fails, by-bool, not-both-ways, and-false}
+use Rattle.basis.proofs.ListLaws.{each-mem}
+use Rattle.basis.proofs.LoopLaws.{any-same, any-each}
 use Rattle.format.specs.declared.Shape.{Shape}
 use Rattle.format.specs.declared.Row.{Row}
 use Rattle.format.specs.Shape.{writes, sc, covers, equal, bothSc}
 use Rattle.format.specs.Event.{Event, shapeAt, writesAt}
 use Rattle.format.specs.Execution.{Execution, event}
 use Rattle.format.proofs.EventLaws.{writesAt-nobody}
+use Rattle.format.proofs.ShapeLaws.{equal-sym, covers-equal}
+use Rattle.format.proofs.ExecutionLaws.{event-out, reads-covers, writes-covers}
 use Rattle.sets.specs.Mask.{slots, mem}
-use Rattle.sets.proofs.BoolLaws.{by-bool, not-both-ways}
-use Rattle.basis.proofs.FindLaws.{any-same, any-each}
-use Rattle.basis.proofs.BoolLaws.{and-false}
-use Rattle.basis.proofs.ListLaws.{each-mem}
 use Rattle.tables.proofs.TablesLaws.{slot-below}
 use Rattle.model.specs.Events.{atRow}
 use Rattle.model.specs.Happens.{rowSyncs}
 use Rattle.model.specs.Bar.{barA, barB, barC, rowBars, bar}
 use Rattle.model.proofs.Sound.{Sound}
-use Rattle.model.proofs.ShapeLaws.{equal-sym, covers-equal}
-use Rattle.model.proofs.EventsLaws.{event-out, reads-covers, writes-covers}
 use Rattle.model.proofs.HappensLaws.{reader-inside, writer-inside}
 use Rattle.tables.specs.Tables.{shapeIn, slotIn, atIn, rowIn}
 use Rattle.bars.specs.Bars.{hits, sharing, matches, reasons, rowBarsIn, filledIn}

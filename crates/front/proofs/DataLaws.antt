@@ -10,7 +10,7 @@ use borrow.Author.Tests.{eqb-true, ne-eqb}
 use lib.Dec.{eqb}
 use lib.ListN.{getD}
 use lib.Seq.{getD-drop}
-use Rattle.basis.proofs.LoopLaws.{or-either}
+use Rattle.basis.proofs.BoolLaws.{or-either}
 use Rattle.format.specs.declared.Shape.{Shape}
 use Rattle.format.specs.Shape.{reads, writes, covers}
 use Rattle.format.specs.Event.{saw, wrote}

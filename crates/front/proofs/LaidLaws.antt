@@ -1,4 +1,5 @@
 -- The tables that are filled from a sheet hold its execution. Assumes nothing.
+--     laid-count                       the events laid down are counted
 --     spaced-each                      things a gap apart, by number
 --     laid-tabled, laid-agents         the events
 --     laid-rowed, laid-seen            the rows, with what was seen and written
@@ -8,13 +9,11 @@ use mathlib.Core.List.{List, [], _∷_, List·Memᴰ, List·Memᴰ·head, List·
 use Prim.Native.Nat.{ℕ, zero, suc, _+_, _*_, _%_, _<_, _≤_, min}
 use native.Mathlib.Nat.{mod-eq-of-lt}
 use native.Mathlib.Omega.{arith}
-use borrow.Author.Tests.{ltb-true}
-use lib.Dec.{T, leb, ltb}
+use lib.Dec.{T}
 use lib.ListN.{length, getD, replicate, length-replicate, getD-replicate}
 use Rattle.basis.specs.Test.{each, from}
-use Rattle.basis.proofs.TestLaws.{from-elim, and-elim}
-use Rattle.basis.proofs.LoopLaws.{T-true, and-both}
-use Rattle.basis.proofs.ListLaws.{getD-mem}
+use Rattle.basis.proofs.BoolLaws.{T-true, and-both}
+use Rattle.basis.proofs.ListLaws.{from-elim, getD-mem}
 use Rattle.format.specs.declared.Shape.{Shape}
 use Rattle.format.specs.declared.Row.{Row}
 use Rattle.format.specs.declared.Pair.{Pair}
@@ -60,10 +59,6 @@ module _ {A : Type 0} where
       ap (λ (i : ℕ). spaced f gap i n) z ∙ spaced-from f gap p 0 n
       ∙ each-same (λ (j : ℕ). f (p + j * gap)) h (from 0 n) (λ j m. e j (let w = from-elim n 0 j m in omega (arith, w .1)))
 
-covers-lt : (a : Shape) (k : ℕ) → T (covers a k) → k < a .start + a .width
-unfolding covers
-covers-lt a k h = ltb-true k (a .start + a .width) (T-true _ (and-elim (leb (a .start) k) (ltb k (a .start + a .width)) h .1))
-
 shape-path : {k l m n o p q r u v : ℕ} → k ≡ l → m ≡ n → o ≡ p → q ≡ r → u ≡ v
     → _≡_ {A = Shape} (record { kind = k; mode = m; start = o; width = q; tear = u }) (record { kind = l; mode = n; start = p; width = r; tear = v })
 shape-path a b c d e = λ i. record { kind = a i; mode = b i; start = c i; width = d i; tear = e i }
@@ -75,6 +70,10 @@ row-path a b c = λ i. record { reader = a i; address = b i; writer = c i }
 pair-path : {k l m n : ℕ} → k ≡ l → m ≡ n → _≡_ {A = Pair} (record { first = k; second = m }) (record { first = l; second = n })
 pair-path a b = λ i. record { first = a i; second = b i }
 
+-- the events laid down are counted
+pub laid-count : {s : List ℕ} {x : Counts} {at : List ℕ} → Laid s x at → length (execution s x at .events) ≡ x .events
+laid-count {s} {x} {at} laid = let z = laid .size in let y = laid .few in events-count s (x .head .edition) (x .events) at (omega arith)
+
 module _ (s : List ℕ) (x : Counts) (at : List ℕ) (laid : Laid s x at) (well : WellFormed (execution s x at)) (t q p : List ℕ)
     (ly : Layered s x at (replicate columns 0) t (replicate rowCells 0) q (replicate 64 0) p) where
   so : Sound (execution s x at)
@@ -84,7 +83,7 @@ module _ (s : List ℕ) (x : Counts) (at : List ℕ) (laid : Laid s x at) (well 
   fits = let z = laid .size in let y = laid .few in omega arith
 
   counted : length (execution s x at .events) ≡ x .events
-  counted = events-count s (x .head .edition) (x .events) at fits
+  counted = laid-count laid
 
   event-is : (e : ℕ) → e < x .events → event (execution s x at) e ≡ eventAt s (x .head .edition) (getD at e 0)
   unfolding event

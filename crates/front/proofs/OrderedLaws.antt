@@ -7,7 +7,7 @@
 use mathlib.Core.Path.{_≡_, refl, sym, ap, ap₂, _∙_, subst}
 use mathlib.Core.Bool.{Bool, true, false, cond}
 use mathlib.Core.Logic.{_⊎_, inl, inr, ⊎-elim}
-use mathlib.Core.List.{List, _∷_, List·Memᴰ, List·Memᴰ·head, List·Memᴰ·tail}
+use mathlib.Core.List.{List}
 use Prim.Native.Nat.{ℕ, zero, suc, _+_, _*_, _<_, _≤_}
 use native.Mathlib.Nat.{mod-eq-of-lt}
 use native.Mathlib.Omega.{arith}
@@ -15,31 +15,29 @@ use native.Mathlib.Decide.{decLt}
 use borrow.Author.Tests.{ltb-true, le-leb, lt-ltb, le-ltb}
 use lib.Dec.{T, eqb, leb, ltb, eqb·suc-zero}
 use lib.ListN.{length, getD, replicate, length-replicate}
-use Rattle.basis.specs.Test.{_and_, _or_, non, any, each, from}
-use Rattle.basis.proofs.TestLaws.{and-elim, and-intro, or-cases, or-left, or-right, same-test}
-use Rattle.basis.proofs.LoopLaws.{true-T, T-true, false-T, T-false, and-holds, and-fails, or-none}
+use Rattle.basis.specs.Test.{_and_, _or_, non, any, from}
+use Rattle.basis.proofs.BoolLaws.{and-elim, and-intro, or-cases, or-left, or-right, same-test, true-T, T-true, T-false, and-holds, and-fails, or-none, by-bool, and-false}
+use Rattle.basis.proofs.LoopLaws.{any-same, any-each}
 use Rattle.format.specs.declared.Shape.{Shape}
 use Rattle.format.specs.declared.Row.{Row}
 use Rattle.format.specs.declared.Pair.{Pair}
 use Rattle.format.specs.Shape.{covers, overlap, bothSc}
-use Rattle.format.specs.Event.{Access, Event, isInit, lookup, accessAt, shapeAt}
+use Rattle.format.specs.Event.{isInit, shapeAt}
 use Rattle.format.specs.Execution.{Execution, event}
+use Rattle.format.proofs.ShapeLaws.{both-cover}
+use Rattle.format.proofs.ExecutionLaws.{shape-covers}
 use Rattle.sets.specs.Mask.{slots, mem}
 use Rattle.closing.specs.Closure.{taken, Closed}
-use Rattle.sets.proofs.BoolLaws.{by-bool}
 use Rattle.sets.proofs.MaskLaws.{mem-empty, ext-all}
-use Rattle.basis.proofs.FindLaws.{any-same, any-each}
-use Rattle.basis.proofs.BoolLaws.{and-false}
 use Rattle.model.specs.Events.{anyTwo, atRow}
 use Rattle.model.specs.Happens.{agentOrder, rowSyncs, synchronises, initFirst, step, Tests}
-use Rattle.model.proofs.ShapeLaws.{both-cover}
 use Rattle.model.proofs.EventsLaws.{two-elim, two-at}
 use Rattle.model.proofs.Sound.{Sound}
 use Rattle.model.proofs.HappensLaws.{step-inside, happens-inside, closed-tests}
 use Rattle.tables.specs.Tables.{agentIn, shapeIn, atIn, rowIn, pairIn}
 use Rattle.tables.proofs.TablesLaws.{reader-slot, writer-slot}
-use Rattle.before.specs.Before.{meetsIn, metIn, laterIn, syncIn, directIn, rowStep, pairStep, stepIn, stepsIn, Ordered}
-use Rattle.before.proofs.BeforeLaws.{steps-length, turned-mem}
+use Rattle.before.specs.Before.{meetsIn, metIn, laterIn, syncIn, directIn, rowStep, pairStep, stepIn, stepsIn, ClosedSteps}
+use Rattle.before.proofs.BeforeLaws.{steps-length, columns-mem}
 use Rattle.before.proofs.StepsLaws.{empty-at, steps-mem}
 use Rattle.front.specs.Tabled.{Tabled, Agents, Rowed, Paired, hbOf, Turned}
 use Rattle.front.proofs.TabledLaws.{at-first, at-second, at-cases}
@@ -61,21 +59,6 @@ overlap-byte a b h =
         → (k : ℕ) × T (leb (a .start) k and ltb k (a .start + a .width)) × T (leb (b .start) k and ltb k (b .start + b .width))
     go wa wb ab ba (yes l) = (b .start, in-range a (b .start) (omega arith) (omega arith), in-range b (b .start) (omega arith) (omega arith))
     go wa wb ab ba (no l) = (a .start, in-range a (a .start) (omega arith) (omega arith), in-range b (a .start) (omega (arith, l)) (omega arith))
-
--- ---- an access of an event covers a byte; so does the access at that byte
-
-found-covers : (l : List Access) (a : Access) (k : ℕ) → List·Memᴰ a l → T (covers (a .shape) k) → T (covers (lookup l k .shape) k)
-unfolding lookup
-found-covers (b ∷ l) a k m h = go (covers (b .shape) k) refl m (λ n. found-covers l a k n h)
-  where
-    go : (c : Bool) → covers (b .shape) k ≡ c → List·Memᴰ a (b ∷ l) → (List·Memᴰ a l → T (covers (lookup l k .shape) k)) → T (covers (cond c b (lookup l k) .shape) k)
-    go true e n ih = true-T _ e
-    go false e (List·Memᴰ·head z) ih = absurd (false-T _ e (subst (λ (d : Access). T (covers (d .shape) k)) z h))
-    go false e (List·Memᴰ·tail n) ih = ih n
-
-shape-covers : (d : Event) (a : Access) (k : ℕ) → List·Memᴰ a (d .accesses) → T (covers (a .shape) k) → T (covers (shapeAt d k) k)
-unfolding shapeAt accessAt
-shape-covers d a k m h = found-covers (d .accesses) a k m h
 
 module _ (t : List ℕ) (v k : ℕ) where
   slot-covers : T (covers (shapeIn t (2 * v)) k) ⊎ T (covers (shapeIn t (2 * v + 1)) k) → T (covers (atIn t v k) k)
@@ -225,7 +208,7 @@ module _ (x : Execution) (t : List ℕ) (n : ℕ) (tb : Tabled x t n) where
       long : length S ≡ slots
       long = steps-length t n q m p k (replicate slots 0) ∙ length-replicate {A = ℕ} slots 0
 
-      module _ (succ pred : List ℕ) (o : Ordered t n q m p k (replicate slots 0) succ (replicate slots 0) pred) where
+      module _ (succ pred : List ℕ) (o : ClosedSteps t n q m p k (replicate slots 0) succ (replicate slots 0) pred) where
         all-taken : taken n S ≡ length (x .events)
         all-taken = let z = tb .count in let y = tb .few in let l = long in omega arith
 
@@ -244,7 +227,7 @@ module _ (x : Execution) (t : List ℕ) (n : ℕ) (tb : Tabled x t n) where
         unfolding _or_
         ordered-turned e d =
             ap (λ (l : List ℕ). mem (getD l d 0) e) (o .turned)
-            ∙ turned-mem succ (replicate slots 0) (length-replicate {A = ℕ} slots 0) n d e
+            ∙ columns-mem succ (replicate slots 0) (length-replicate {A = ℕ} slots 0) n d e
             ∙ ap (λ (b : Bool). b or (ltb e (taken n succ) and (ltb d slots and mem (getD succ e 0) d))) (ap (λ (i : ℕ). mem i e) (empty-at d) ∙ mem-empty e)
             ∙ ap (λ (i : ℕ). ltb e i and (ltb d slots and mem (getD succ e 0) d)) succ-taken
             ∙ go (decLt e n) (decLt d n)

@@ -3,7 +3,7 @@
 --     ruled21, ruled22, ruled23, ruled24     each finds what the model finds
 use mathlib.Core.Path.{_≡_, refl, sym, ap, _∙_, subst}
 use mathlib.Core.Bool.{Bool, true, false, cond}
-use mathlib.Core.List.{List, [], _∷_, List·Memᴰ}
+use mathlib.Core.List.{List, List·Memᴰ}
 use mathlib.Core.Option.{none, some}
 use Prim.Native.Nat.{ℕ, _<_}
 use native.Mathlib.Nat.{mod-eq-of-lt}
@@ -11,16 +11,16 @@ use native.Mathlib.Omega.{arith}
 use borrow.Author.Tests.{ltb-true, ltb-false}
 use lib.Dec.{T, eqb, ltb}
 use lib.ListN.{length, getD}
-use Rattle.basis.specs.Test.{_and_, non, keep, find, mapped, each, across, from}
-use Rattle.basis.proofs.TestLaws.{from-elim}
-use Rattle.basis.proofs.LoopLaws.{true-T, and-both}
-use Rattle.basis.proofs.BoolLaws.{amp-and, and-swap}
-use Rattle.basis.proofs.FindLaws.{find-same, find-at, find-no, find-firsts}
+use Rattle.basis.specs.Test.{_and_, non, find, mapped, across, from}
+use Rattle.basis.proofs.BoolLaws.{true-T, and-both, amp-and, and-swap}
+use Rattle.basis.proofs.ListLaws.{from-elim}
+use Rattle.basis.proofs.FindLaws.{find-same, found-each, find-at, find-no, find-firsts}
 use Rattle.format.specs.declared.Row.{Row}
 use Rattle.format.specs.Shape.{covers, writes}
 use Rattle.format.specs.Event.{writesAt, wrote}
 use Rattle.format.specs.Execution.{Execution, event}
 use Rattle.format.proofs.EventLaws.{writesAt-nobody}
+use Rattle.format.proofs.ExecutionLaws.{event-inside}
 use Rattle.answer.specs.declared.Names.{Names}
 use Rattle.answer.specs.declared.Names.the-variants.{Row as OfRow, Event as OfEvent, Between}
 use Rattle.answer.specs.declared.Rule.the-variants.{Kept, Breach}
@@ -30,8 +30,7 @@ use Rattle.sets.proofs.MaskLaws.{mem-and}
 use Rattle.cells.specs.First.{firstOf, First}
 use Rattle.cells.proofs.FirstLaws.{first-of, first-find}
 use Rattle.model.specs.Events.{numbers}
-use Rattle.model.specs.Rules.{Fault, faulty, breaks21, breaks22, breaks23, breaks24, fault21, fault22, fault23, fault24}
-use Rattle.model.proofs.EventsLaws.{event-inside}
+use Rattle.model.specs.Rules.{faulty, breaks21, breaks22, breaks23, breaks24, fault21, fault22, fault23, fault24}
 use Rattle.tables.specs.Tables.{writesIn, rowIn}
 use Rattle.tables.proofs.TablesLaws.{reader-slot, writer-slot}
 use Rattle.rules.specs.Rules.{unlikeIn, cyclicIn, turnedIn, betweenIn, overIn, rule21In, rule22In, rule23In, rule24In}
@@ -46,17 +45,6 @@ module _ (p : ℕ → Bool) (n k : ℕ) (g : ℕ → Names) where
       go true = refl
       go false = refl
 
--- a search through the rows is one through their places
-find-rows : (f : Row → Bool) (h : Row → Fault) (g : ℕ → Row) (l : List ℕ) → mapped h (find f (each g l)) ≡ mapped (λ (j : ℕ). h (g j)) (find (λ (j : ℕ). f (g j)) l)
-unfolding find each mapped keep
-find-rows f h g [] = refl
-find-rows f h g (j ∷ l) = go (f (g j)) (find-rows f h g l)
-  where
-    go : (b : Bool) → mapped h (find f (each g l)) ≡ mapped (λ (i : ℕ). h (g i)) (find (λ (i : ℕ). f (g i)) l)
-        → mapped h (keep b (g j) (find f (each g l))) ≡ mapped (λ (i : ℕ). h (g i)) (keep b j (find (λ (i : ℕ). f (g i)) l))
-    go true e = refl
-    go false e = e
-
 abbrev rowNames : Row → Names
 rowNames r = OfRow (r .reader) (r .writer) (r .address)
 
@@ -70,7 +58,7 @@ module _ (x : Execution) (q : List ℕ) (m : ℕ) (rowed : Rowed x q m) where
   ruled21 s =
       found-named (unlikeIn q) m 21 (λ (j : ℕ). rowNames (rowIn q j))
       ∙ ap (mapped (λ (j : ℕ). faulty 21 (rowNames (rowIn q j)))) (find-same (unlikeIn q) (λ (j : ℕ). breaks21 x (rowIn q j)) (from 0 m) same)
-      ∙ sym (find-rows (breaks21 x) (λ (r : Row). faulty 21 (rowNames r)) (rowIn q) (from 0 m))
+      ∙ sym (found-each (breaks21 x) (λ (r : Row). faulty 21 (rowNames r)) (rowIn q) (from 0 m))
       ∙ ap (λ (l : List Row). mapped (λ (r : Row). faulty 21 (rowNames r)) (find (breaks21 x) l)) (sym rowed)
     where
       same : (j : ℕ) → List·Memᴰ j (from 0 m) → unlikeIn q j ≡ breaks21 x (rowIn q j)
@@ -83,7 +71,7 @@ module _ (x : Execution) (q : List ℕ) (m : ℕ) (rowed : Rowed x q m) where
   unfolding rule23In fault23 breaks23 turnedIn
   ruled23 succ =
       found-named (turnedIn q succ) m 23 (λ (j : ℕ). rowNames (rowIn q j))
-      ∙ sym (find-rows (breaks23 (hbOf succ)) (λ (r : Row). faulty 23 (rowNames r)) (rowIn q) (from 0 m))
+      ∙ sym (found-each (breaks23 (hbOf succ)) (λ (r : Row). faulty 23 (rowNames r)) (rowIn q) (from 0 m))
       ∙ ap (λ (l : List Row). mapped (λ (r : Row). faulty 23 (rowNames r)) (find (breaks23 (hbOf succ)) l)) (sym rowed)
 
 pub ruled22 : (x : Execution) (n : ℕ) → length (x .events) ≡ n → (succ : List ℕ) → foundOf (rule22In succ n) ≡ fault22 x (hbOf succ)

@@ -2,27 +2,24 @@
 --     clash-is, open-is     two events clash, are unsettled, by the tables and by the model
 --     settled               what the tables answer is what the model answers
 use mathlib.Core.Path.{_≡_, sym, ap, _∙_, subst}
-use mathlib.Core.Bool.{Bool, true, false, cond}
+use mathlib.Core.Bool.{Bool, true, false}
 use mathlib.Core.Logic.{_⊎_, inl, inr, ⊎-elim}
 use mathlib.Core.List.{List, List·Memᴰ}
-use mathlib.Core.Option.{none}
-use Prim.Native.Nat.{ℕ, suc, _+_, _*_, _<_, _≤_}
+use Prim.Native.Nat.{ℕ, _+_, _*_, _<_, _≤_}
 use native.Mathlib.Omega.{arith}
 use borrow.Author.Tests.{ltb-true, ltb-false}
 use lib.Dec.{T, ltb}
 use lib.ListN.{length}
-use Rattle.basis.specs.Test.{_and_, _or_, non, find, across, from}
-use Rattle.basis.proofs.TestLaws.{and-elim, or-cases, or-left, or-right, same-test}
-use Rattle.basis.proofs.LoopLaws.{true-T, T-true}
+use Rattle.basis.specs.Test.{_and_, non, find, across, from}
+use Rattle.basis.proofs.BoolLaws.{and-elim, or-cases, or-left, or-right, same-test, true-T, T-true, by-bool, not-both-ways}
+use Rattle.basis.proofs.FindLaws.{least-pair, no-pair}
 use Rattle.format.specs.declared.Shape.{Shape}
 use Rattle.format.specs.Shape.{covers, overlap}
 use Rattle.format.specs.Event.{Access, shapeAt}
 use Rattle.format.specs.Execution.{Execution, event}
 use Rattle.sets.specs.Mask.{slots}
-use Rattle.sets.proofs.BoolLaws.{by-bool, not-both-ways}
 use Rattle.cells.specs.First.{firstOf}
 use Rattle.cells.proofs.FirstLaws.{first-of}
-use Rattle.basis.proofs.FindLaws.{least-pair, no-pair}
 use Rattle.model.specs.Events.{numbers, anyTwo}
 use Rattle.model.specs.Unsettled.{clash, unsettled, unsettledPair}
 use Rattle.model.specs.Judged.{settledOf}

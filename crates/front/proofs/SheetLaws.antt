@@ -24,7 +24,7 @@ use Rattle.model.specs.Judged.{settledOf}
 use Rattle.model.proofs.Sound.{Sound, sound}
 use Rattle.tables.specs.Tables.{columns, rowRoom, rowCells, pairRoom}
 use Rattle.bars.specs.Bars.{filledIn}
-use Rattle.before.specs.Before.{Ordered}
+use Rattle.before.specs.Before.{ClosedSteps}
 use Rattle.settle.specs.Settle.{settledIn}
 use Rattle.lay.specs.Lay.{Layered}
 use Rattle.rules.specs.Rules.{ruleIn}
@@ -45,7 +45,7 @@ roomy F {n} {room} h f = subst F (let z : min n room ≡ n = omega arith in z) f
 
 module _ {s : List ℕ} {x : Counts} {at : List ℕ} (laid : Laid s x at) (well : WellFormed (execution s x at)) {t q p : List ℕ}
     (ly : Layered s x at (replicate columns 0) t (replicate rowCells 0) q (replicate 64 0) p) {succ pred : List ℕ}
-    (o : Ordered t (min (x .events) slots) q (min (x .rows) rowRoom) p (min (x .pairs) pairRoom) (replicate slots 0) succ (replicate slots 0) pred) where
+    (o : ClosedSteps t (min (x .events) slots) q (min (x .rows) rowRoom) p (min (x .pairs) pairRoom) (replicate slots 0) succ (replicate slots 0) pred) where
   sl : Slotted (execution s x at) t (x .events)
   sl = slotted-one (execution s x at) t (x .events) (laid-tabled s x at laid well t q p ly)
 
@@ -68,11 +68,11 @@ module _ {s : List ℕ} {x : Counts} {at : List ℕ} (laid : Laid s x at) (well 
         paired = laid-paired s x at laid well t q p ly;
       }
 
-  all-ordered : Ordered t (x .events) q (x .rows) p (x .pairs) (replicate slots 0) succ (replicate slots 0) pred
+  all-ordered : ClosedSteps t (x .events) q (x .rows) p (x .pairs) (replicate slots 0) succ (replicate slots 0) pred
   all-ordered =
-      roomy (λ (n : ℕ). Ordered t n q (x .rows) p (x .pairs) (replicate slots 0) succ (replicate slots 0) pred) (laid .few)
-      (roomy (λ (m : ℕ). Ordered t (min (x .events) slots) q m p (x .pairs) (replicate slots 0) succ (replicate slots 0) pred) rows-few
-      (roomy (λ (k : ℕ). Ordered t (min (x .events) slots) q (min (x .rows) rowRoom) p k (replicate slots 0) succ (replicate slots 0) pred) (pairs-few s x at laid well t q p ly) o))
+      roomy (λ (n : ℕ). ClosedSteps t n q (x .rows) p (x .pairs) (replicate slots 0) succ (replicate slots 0) pred) (laid .few)
+      (roomy (λ (m : ℕ). ClosedSteps t (min (x .events) slots) q m p (x .pairs) (replicate slots 0) succ (replicate slots 0) pred) rows-few
+      (roomy (λ (k : ℕ). ClosedSteps t (min (x .events) slots) q (min (x .rows) rowRoom) p k (replicate slots 0) succ (replicate slots 0) pred) (pairs-few s x at laid well t q p ly) o))
 
   pub sheet-held : Held (execution s x at) (x .events) (x .rows) t q succ pred
   sheet-held =

@@ -11,14 +11,14 @@ use native.Mathlib.Nat.{mod-eq-of-lt}
 use native.Mathlib.Omega.{arith}
 use native.Mathlib.Decide.{ℕ-discrete}
 use lib.ListN.{length, getD, replicate, length-replicate, getD-replicate}
+use Rattle.basis.proofs.BoolLaws.{by-bool, not-both-ways}
 use Rattle.sets.specs.Mask.{slots, mem, Has}
-use Rattle.sets.proofs.BoolLaws.{by-bool, not-both-ways}
 use Rattle.sets.proofs.MaskLaws.{mem-empty}
 use Rattle.cells.specs.Walk.{upTo}
 use Rattle.cells.proofs.CellsLaws.{gaining-back, gaining-keep, gaining-new}
 use Rattle.tables.specs.Tables.{accesses, slotIn, rowIn}
 use Rattle.tables.proofs.TablesLaws.{reader-slot, writer-slot}
-use Rattle.torn.specs.Torn.{untornIn, rowGains, sourcesIn}
+use Rattle.torn.specs.Torn.{untornIn, sourceGains, sourcesIn}
 use Rattle.torn.proofs.TornLaws.{row-gains, row-keeps, sources-length}
 
 pub record Sourced (t q : List ℕ) (k w j : ℕ) : Type 0 where
@@ -57,7 +57,7 @@ module _ (t q l : List ℕ) (k w : ℕ) (inside : k < length l) where
           (gaining-back (sourcesIn t q n l) (slotIn t (rowIn q n .reader % slots) (rowIn q n .address)) (rowIn q n .writer % slots) k w (room n)
           (subst (λ (z : List ℕ). Has (getD z k 0) w) (row-gains t (rowIn q n) (sourcesIn t q n l) u) h))
 
-  step-keep : (n : ℕ) → Has (getD (sourcesIn t q n l) k 0) w → Has (getD (rowGains t (rowIn q n) (sourcesIn t q n l)) k 0) w
+  step-keep : (n : ℕ) → Has (getD (sourcesIn t q n l) k 0) w → Has (getD (sourceGains t (rowIn q n) (sourcesIn t q n l)) k 0) w
   step-keep n h =
       by-bool (untornIn t (rowIn q n))
       (λ u. subst (λ (z : List ℕ). Has (getD z k 0) w) (sym (row-gains t (rowIn q n) (sourcesIn t q n l) u))
@@ -69,7 +69,7 @@ module _ (t q l : List ℕ) (k w : ℕ) (inside : k < length l) where
   sources-new zero j h s = absurd (omega arith)
   sources-new (suc n) j h s = go (ℕ-discrete j n) (sources-new n j)
     where
-      go : Dec (j ≡ n) → (j < n → Sourced t q k w j → Has (getD (sourcesIn t q n l) k 0) w) → Has (getD (rowGains t (rowIn q n) (sourcesIn t q n l)) k 0) w
+      go : Dec (j ≡ n) → (j < n → Sourced t q k w j → Has (getD (sourcesIn t q n l) k 0) w) → Has (getD (sourceGains t (rowIn q n) (sourcesIn t q n l)) k 0) w
       go (no d) ih = step-keep n (ih (omega (arith, d)) s)
       go (yes d) ih =
           let u : Sourced t q k w n = subst (Sourced t q k w) d s in

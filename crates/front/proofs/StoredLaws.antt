@@ -4,29 +4,30 @@
 --     each-of       what a computed test says of each number
 --     met           the premise holds
 use mathlib.Core.Path.{_≡_, refl, sym, ap, _∙_, subst}
-use mathlib.Core.Bool.{Bool, true, false}
+use mathlib.Core.Bool.{Bool, false}
 use mathlib.Core.Logic.{_⊎_, inl, inr, ⊎-elim}
-use mathlib.Core.List.{List, [], _∷_, List·Memᴰ, List·Memᴰ·head, List·Memᴰ·tail, List·Memᴰ·not-nil}
+use mathlib.Core.List.{[], _∷_, List·Memᴰ, List·Memᴰ·head, List·Memᴰ·tail, List·Memᴰ·not-nil}
 use Prim.Native.Nat.{ℕ, zero, suc, _+_, _*_, _<_, _≤_}
 use native.Mathlib.Omega.{arith}
 use lib.Dec.{T, eqb, eqb→eq}
 use Rattle.basis.specs.Test.{_and_, _or_, non, any, number, each, from}
-use Rattle.basis.proofs.TestLaws.{and-elim, any-intro, decide, non-intro, from-mem}
-use Rattle.basis.proofs.LoopLaws.{T-true, false-T}
+use Rattle.basis.proofs.BoolLaws.{and-elim, decide, non-intro, T-true, false-T, by-bool}
+use Rattle.basis.proofs.ListLaws.{from-mem}
+use Rattle.basis.proofs.LoopLaws.{any-intro}
 use Rattle.format.specs.declared.Shape.{Shape}
 use Rattle.format.specs.declared.Row.{Row}
 use Rattle.format.specs.Shape.{reads, writes, covers, overlap}
 use Rattle.format.specs.Event.{Access, lookup, accessAt, shapeAt, readsAt, writesAt, saw, wrote, isInit}
 use Rattle.format.specs.Execution.{Execution, eventNo, event, inits}
 use Rattle.format.proofs.EventLaws.{readsAt-nobody}
-use Rattle.sets.proofs.BoolLaws.{by-bool}
+use Rattle.format.proofs.EventLaws.{covers-nothing}
+use Rattle.format.proofs.ExecutionLaws.{access-inside}
 use Rattle.model.specs.Events.{anyTwo}
-use Rattle.model.proofs.ShapeLaws.{nothing-covers}
-use Rattle.model.proofs.EventsLaws.{access-inside, two-elim}
+use Rattle.model.proofs.EventsLaws.{two-elim}
 use Rattle.model.proofs.Sound.{Sound}
 use Rattle.tables.specs.Tables.{agentIn, shapeIn, rowIn, seenIn, wroteIn, pairIn}
 use Rattle.front.specs.Tabled.{Double, Slotted, Agents}
-use Rattle.front.specs.Examples.{initial, reading, row, fillSlots, fillEvents, fillRows, tableOf, rowsOf, readsBoth, Met}
+use Rattle.front.specs.Examples.{initial, reading, aRow, fillSlots, fillEvents, fillRows, tableOf, rowsOf, readsBoth, Met}
 use Rattle.front.proofs.TabledLaws.{range-of, regions-apart, lookup-hit, lookup-miss}
 
 -- what an event with two accesses reads, one of them reads
@@ -38,7 +39,7 @@ reads-one p q agent n t =
     (λ c. inl (and-elim _ _ (subst (λ (a : Access). T (covers (a .shape) n and reads (a .shape))) (lookup-hit p (q ∷ []) n c) t)))
     (λ c. by-bool (covers (q .shape) n)
     (λ d. inr (and-elim _ _ (subst (λ (a : Access). T (covers (a .shape) n and reads (a .shape))) (lookup-miss p (q ∷ []) n c ∙ lookup-hit q [] n d) t)))
-    (λ d. absurd (nothing-covers n (and-elim _ _ (subst (λ (a : Access). T (covers (a .shape) n and reads (a .shape))) (lookup-miss p (q ∷ []) n c ∙ lookup-miss q [] n d) t) .0))))
+    (λ d. absurd (false-T _ (covers-nothing n) (and-elim _ _ (subst (λ (a : Access). T (covers (a .shape) n and reads (a .shape))) (lookup-miss p (q ∷ []) n c ∙ lookup-miss q [] n d) t) .0))))
 
 -- a range of one byte
 byte-is : (a : Shape) (k n : ℕ) → a .start ≡ k → a .width ≡ 1 → T (covers a n) → k ≡ n
@@ -53,13 +54,13 @@ reads-at zero n t = ⊎-elim (λ w. absurd (w .1)) (λ w. absurd (w .1)) (reads-
 reads-at (suc zero) n t = (refl, ⊎-elim (λ w. inl (byte-is _ 0 n refl refl (w .0))) (λ w. inr (byte-is _ 64 n refl refl (w .0))) (reads-one _ _ _ n t))
 reads-at (suc (suc e)) n t = absurd (subst T (readsAt-nobody n) t)
 
-of-rows : (F : Row → Type 0) → F (row 1 0 0) → F (row 1 64 0) → (r : Row) → List·Memᴰ r (x .rows) → F r
+of-rows : (F : Row → Type 0) → F (aRow 1 0 0) → F (aRow 1 64 0) → (r : Row) → List·Memᴰ r (x .rows) → F r
 of-rows F a b r (List·Memᴰ·head z) = subst F (sym z) a
 of-rows F a b r (List·Memᴰ·tail (List·Memᴰ·head z)) = subst F (sym z) b
 
 has : (e n : ℕ) → (e ≡ 1) → (0 ≡ n) ⊎ (64 ≡ n) → (r : Row) × List·Memᴰ r (x .rows) × (r .reader ≡ e) × (r .address ≡ n)
-has e n h (inl z) = (row 1 0 0, List·Memᴰ·head refl, sym h, z)
-has e n h (inr z) = (row 1 64 0, List·Memᴰ·tail (List·Memᴰ·head refl), sym h, z)
+has e n h (inl z) = (aRow 1 0 0, List·Memᴰ·head refl, sym h, z)
+has e n h (inr z) = (aRow 1 64 0, List·Memᴰ·tail (List·Memᴰ·head refl), sym h, z)
 
 init-is : (e : ℕ) → T (isInit (event x e)) → (e ≡ 0) ⊎ (2 ≤ e)
 unfolding event eventNo isInit

@@ -5,7 +5,6 @@
 --     tabled                            accesses in their slots, one or two to an event, are the table's at each byte
 --     owned                             and of an event's accesses no two cover a byte
 --     slotted-one                       events with one access, in their first slots, are slotted
---     tabled-one, own-one               and so tabled, and owned
 use mathlib.Core.Path.{_≡_, refl, sym, ap, _∙_, subst}
 use mathlib.Core.Bool.{true, false}
 use mathlib.Core.Logic.{_⊎_, inl, inr}
@@ -16,16 +15,14 @@ use native.Mathlib.Decide.{decLt}
 use borrow.Author.Tests.{leb-true, ltb-true}
 use lib.Dec.{leb, ltb}
 use lib.ListN.{length}
-use Rattle.basis.specs.Test.{_and_}
-use Rattle.basis.proofs.LoopLaws.{T-true, and-both}
+use Rattle.basis.proofs.BoolLaws.{T-true, and-both, by-bool, not-both-ways, false-of}
 use Rattle.format.specs.declared.Shape.{Shape}
 use Rattle.format.specs.Shape.{noShape, covers}
 use Rattle.format.specs.Event.{Access, Event, shapeAt, accessAt, lookup}
 use Rattle.format.specs.Execution.{Execution, event}
 use Rattle.format.proofs.EventLaws.{one, covers-nothing}
+use Rattle.format.proofs.ExecutionLaws.{event-out, access-inside}
 use Rattle.sets.specs.Mask.{slots}
-use Rattle.sets.proofs.BoolLaws.{by-bool, not-both-ways, false-of}
-use Rattle.model.proofs.EventsLaws.{event-out, access-inside}
 use Rattle.tables.specs.Tables.{agentIn, shapeIn, slotIn, atIn}
 use Rattle.tables.proofs.TablesLaws.{slot-first, slot-second, at-hit, at-miss}
 use Rattle.front.specs.Tabled.{Single, Double, Slotted, Tabled, Owned}
@@ -193,9 +190,3 @@ module _ (x : Execution) (t : List ℕ) (n : ℕ) (o : OneTabled x t n) where
             first = refl;
             second = o .second e (omega arith);
           }
-
-  pub tabled-one : Tabled x t n
-  tabled-one = tabled x t n slotted-one
-
-  pub own-one : Owned x
-  own-one = owned x t n slotted-one

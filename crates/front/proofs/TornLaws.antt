@@ -3,7 +3,7 @@
 --     torn-forth, torn-back     a torn read by the model is two sources of one access, and the other way round
 --     ruled25         25 finds what the model finds
 use mathlib.Core.Path.{_≡_, refl, sym, ap, _∙_, subst}
-use mathlib.Core.Bool.{true, false, cond}
+use mathlib.Core.Bool.{true, false}
 use mathlib.Core.Logic.{_⊎_, inl, inr, ⊎-elim}
 use mathlib.Core.List.{List, List·Memᴰ}
 use mathlib.Core.Option.{none, some}
@@ -13,29 +13,28 @@ use native.Mathlib.Omega.{arith}
 use borrow.Author.Tests.{eq-eqb, eqb-true, lt-ltb, ltb-true, ltb-false}
 use lib.Dec.{T, eqb, ltb}
 use lib.ListN.{getD, replicate}
-use Rattle.basis.specs.Test.{_and_, _or_, any, find, mapped, each, across, from}
-use Rattle.basis.proofs.TestLaws.{and-elim, and-intro, any-elim, any-intro, from-mem, from-elim}
-use Rattle.basis.proofs.LoopLaws.{true-T, T-true, T-false, and-holds, and-both, or-holds, or-either, or-second}
+use Rattle.basis.specs.Test.{_and_, find, mapped, across, from}
+use Rattle.basis.proofs.BoolLaws.{and-elim, and-intro, true-T, T-true, T-false, and-holds, and-both, or-holds, or-either, or-second, by-bool, not-both-ways}
+use Rattle.basis.proofs.ListLaws.{from-mem, from-elim, each-elim, each-mem, each-id}
+use Rattle.basis.proofs.LoopLaws.{any-elim, any-intro}
+use Rattle.basis.proofs.FindLaws.{least-pair, no-pair, find-firsts}
 use Rattle.format.specs.declared.Shape.{Shape}
 use Rattle.format.specs.declared.Row.{Row}
 use Rattle.format.specs.Shape.{covers, equal, tearFree}
 use Rattle.format.specs.Execution.{Execution}
+use Rattle.format.proofs.ShapeLaws.{equal-sym, equal-self, covers-equal}
+use Rattle.format.proofs.ExecutionLaws.{reads-covers, writes-covers}
 use Rattle.answer.specs.declared.Names.the-variants.{Torn}
 use Rattle.sets.specs.Mask.{slots, mem, Has}
-use Rattle.sets.proofs.BoolLaws.{by-bool, not-both-ways}
 use Rattle.cells.specs.First.{firstOf}
 use Rattle.cells.proofs.FirstLaws.{first-of}
-use Rattle.basis.proofs.FindLaws.{least-pair, no-pair, find-firsts}
-use Rattle.basis.proofs.ListLaws.{each-elim, each-mem, each-id}
 use Rattle.model.specs.Events.{numbers, atRow, ofReader}
 use Rattle.model.specs.Rules.{faulty, untorn, untornFrom, breaks25, fault25}
 use Rattle.model.proofs.Sound.{Sound}
-use Rattle.model.proofs.ShapeLaws.{equal-sym, equal-self, covers-equal}
-use Rattle.model.proofs.EventsLaws.{reads-covers, writes-covers}
 use Rattle.model.proofs.HappensLaws.{reader-inside, writer-inside}
 use Rattle.tables.specs.Tables.{accesses, shapeIn, slotIn, rowIn}
 use Rattle.tables.proofs.TablesLaws.{slot-first, slot-second, slot-lt}
-use Rattle.torn.specs.Torn.{untornIn, sourcesIn, twoIn, pairIn, pairs, tornIn, namedIn, rule25In}
+use Rattle.torn.specs.Torn.{untornIn, sourcesIn, twoIn, twoSourcesIn, pairs, tornIn, namedIn, rule25In}
 use Rattle.front.specs.Tabled.{Tabled, Rowed, foundOf}
 use Rattle.front.proofs.TabledLaws.{at-slot-of}
 use Rattle.front.proofs.RuledLaws.{found-named}
@@ -222,15 +221,15 @@ module _ (x : Execution) (t : List ℕ) (n : ℕ) (tb : Tabled x t n) (q : List 
       and-holds (ltb ((w * slots + v) / slots) ((w * slots + v) % slots)) _ (lt-ltb ((w * slots + v) / slots) ((w * slots + v) % slots) (omega arith))
       ∙ and-holds (mem k ((w * slots + v) / slots)) _ (ap (mem k) i ∙ a) ∙ ap (mem k) j ∙ b
 
-  pair-both : (e c : ℕ) → pairIn s e c ≡ true → (c / slots < c % slots) × Both e (c / slots) (c % slots)
-  unfolding pairIn
+  pair-both : (e c : ℕ) → twoSourcesIn s e c ≡ true → (c / slots < c % slots) × Both e (c / slots) (c % slots)
+  unfolding twoSourcesIn
   pair-both e c h =
       ⊎-elim (λ g. let p = two-parts (getD s (2 * e) 0) c g in (p .0, (2 * e, (inl refl, (p .1 .0, p .1 .1)))))
       (λ g. let p = two-parts (getD s (2 * e + 1) 0) c g in (p .0, (2 * e + 1, (inr refl, (p .1 .0, p .1 .1)))))
       (or-either (twoIn (getD s (2 * e) 0) c) (twoIn (getD s (2 * e + 1) 0) c) h)
 
-  both-pair : (e w v : ℕ) → w < v → v < slots → Both e w v → pairIn s e (w * slots + v) ≡ true
-  unfolding pairIn
+  both-pair : (e w v : ℕ) → w < v → v < slots → Both e w v → twoSourcesIn s e (w * slots + v) ≡ true
+  unfolding twoSourcesIn
   both-pair e w v l h b =
       ⊎-elim
       (λ z. or-holds _ _ (two-whole (getD s (2 * e) 0) w v l h (subst (λ (k : ℕ). Has (getD s k 0) w) z (b .1 .1 .0)) (subst (λ (k : ℕ). Has (getD s k 0) v) z (b .1 .1 .1))))
@@ -239,7 +238,7 @@ module _ (x : Execution) (t : List ℕ) (n : ℕ) (tb : Tabled x t n) (q : List 
 
   module _ (e : ℕ) (h : e < n) where
     abbrev c : ℕ
-    c = firstOf (pairIn s e) pairs
+    c = firstOf (twoSourcesIn s e) pairs
 
     small : e < slots
     small = let y = tb .few in omega arith
@@ -252,13 +251,13 @@ module _ (x : Execution) (t : List ℕ) (n : ℕ) (tb : Tabled x t n) (q : List 
         let y = tb .few in
         let l = source-lt e v (k .0) small (k .1 .0) (k .1 .1 .1) in
         let d : v < slots = omega arith in
-        not-both-ways (both-pair e w v (f .0) d k) (first-of (pairIn s e) pairs .least (w * slots + v) (low (f .0) d)))
+        not-both-ways (both-pair e w v (f .0) d k) (first-of (twoSourcesIn s e) pairs .least (w * slots + v) (low (f .0) d)))
 
     pub torn-at : tornIn s e ≡ true → find (λ (p : ℕ × ℕ). breaks25 x e (p .0) (p .1)) (across (from 0 n) (from 0 n)) ≡ some (c / slots, c % slots)
     unfolding tornIn
     torn-at g =
         let l = ltb-true c pairs g in
-        let b = pair-both e c (first-of (pairIn s e) pairs .passes l) in
+        let b = pair-both e c (first-of (twoSourcesIn s e) pairs .passes l) in
         let k = b .1 in
         least-pair (λ (p : ℕ × ℕ). breaks25 x e (p .0) (p .1)) n (c / slots) (c % slots) (T-true _ (torn-back e (c / slots) (c % slots) small (b .0) k))
         (λ d v z. not-torn d v (λ y i. omega arith)) (λ v z. not-torn (c / slots) v (λ y i. omega arith))
@@ -272,9 +271,9 @@ module _ (x : Execution) (t : List ℕ) (n : ℕ) (tb : Tabled x t n) (q : List 
   pub ruled25 : foundOf (rule25In t n q m) ≡ fault25 x
   unfolding rule25In namedIn fault25 numbers
   ruled25 =
-      found-named (tornIn s) n 25 (λ (e : ℕ). Torn e (firstOf (pairIn s e) pairs / slots) (firstOf (pairIn s e) pairs % slots))
+      found-named (tornIn s) n 25 (λ (e : ℕ). Torn e (firstOf (twoSourcesIn s e) pairs / slots) (firstOf (twoSourcesIn s e) pairs % slots))
       ∙ sym (find-firsts (λ (e : ℕ). e) (λ (p : ℕ × (ℕ × ℕ)). breaks25 x (p .0) (p .1 .0) (p .1 .1)) (λ (p : ℕ × (ℕ × ℕ)). faulty 25 (Torn (p .0) (p .1 .0) (p .1 .1)))
-      (across (from 0 n) (from 0 n)) (tornIn s) (λ (e : ℕ). (firstOf (pairIn s e) pairs / slots, firstOf (pairIn s e) pairs % slots)) (from 0 n)
+      (across (from 0 n) (from 0 n)) (tornIn s) (λ (e : ℕ). (firstOf (twoSourcesIn s e) pairs / slots, firstOf (twoSourcesIn s e) pairs % slots)) (from 0 n)
       (λ j k g. let z = from-elim n 0 j k in torn-at j (omega arith) g) (λ j k g. let z = from-elim n 0 j k in torn-not j (omega arith) g))
       ∙ ap (λ (l : List ℕ). mapped (λ (p : ℕ × (ℕ × ℕ)). faulty 25 (Torn (p .0) (p .1 .0) (p .1 .1))) (find (λ (p : ℕ × (ℕ × ℕ)). breaks25 x (p .0) (p .1 .0) (p .1 .1)) (across l (across (from 0 n) (from 0 n))))) (each-id (from 0 n))
       ∙ ap (λ (k : ℕ). mapped (λ (p : ℕ × (ℕ × ℕ)). faulty 25 (Torn (p .0) (p .1 .0) (p .1 .1))) (find (λ (p : ℕ × (ℕ × ℕ)). breaks25 x (p .0) (p .1 .0) (p .1 .1)) (across (from 0 k) (across (from 0 k) (from 0 k))))) (sym (tb .count))

@@ -28,7 +28,7 @@ use Rattle.model.specs.Unsettled.{unsettledPair}
 use Rattle.model.specs.Judged.{settledOf}
 use Rattle.cells.specs.Walk.{picked}
 use Rattle.tables.specs.Tables.{columns, rowCells, putting, puttingRow}
-use Rattle.before.specs.Before.{stepsIn, turnedIn}
+use Rattle.before.specs.Before.{stepsIn, columnsIn}
 use Rattle.bars.specs.Bars.{filledIn}
 use Rattle.rules.specs.Rules.{ruleIn}
 use Rattle.settle.specs.Settle.{settledIn}
@@ -49,8 +49,8 @@ writing mode start written = record { shape = record { kind = 2; mode = mode; st
 abbrev pub by : ℕ → List Access → Event
 by agent l = record { agent = agent; accesses = l }
 
-abbrev pub row : ℕ → ℕ → ℕ → Row
-row r a w = record { reader = r; address = a; writer = w }
+abbrev pub aRow : ℕ → ℕ → ℕ → Row
+aRow r a w = record { reader = r; address = a; writer = w }
 
 abbrev pub of : List Event → List Row → Execution
 of events rows = record { head = noHead; events = events; rows = rows; pairs = [] }
@@ -107,7 +107,7 @@ stepsOf x =
     let t = tableOf x in
     let q = rowsOf x in
     let succ = stepsIn t n q m [] 0 (replicate slots 0) in
-    let pred = turnedIn succ n (replicate slots 0) in
+    let pred = columnsIn succ n (replicate slots 0) in
     let bars = filledIn t n succ pred q m (replicate (slots * slots) 0) in
     record {
       succ = take n succ;
@@ -146,30 +146,30 @@ inits = by 0 (initial 0 (0 ∷ []) ∷ initial 64 (0 ∷ []) ∷ [])
 
 -- one event reads both bytes, the second of them wrongly
 abbrev pub readsBoth : Execution
-readsBoth = of (inits ∷ by 1 (reading 1 0 (0 ∷ []) ∷ reading 1 64 (7 ∷ []) ∷ []) ∷ []) (row 1 0 0 ∷ row 1 64 0 ∷ [])
+readsBoth = of (inits ∷ by 1 (reading 1 0 (0 ∷ []) ∷ reading 1 64 (7 ∷ []) ∷ []) ∷ []) (aRow 1 0 0 ∷ aRow 1 64 0 ∷ [])
 
 unfoldable pub examples : List Example
 examples =
     -- 24: event 1 writes byte 64 by its second access, between the init and the read
     record {
-      x = of (inits ∷ by 1 (writing 1 0 (1 ∷ []) ∷ writing 1 64 (1 ∷ []) ∷ []) ∷ by 1 (reading 1 64 (0 ∷ []) ∷ []) ∷ []) (row 2 64 0 ∷ []);
+      x = of (inits ∷ by 1 (writing 1 0 (1 ∷ []) ∷ writing 1 64 (1 ∷ []) ∷ []) ∷ by 1 (reading 1 64 (0 ∷ []) ∷ []) ∷ []) (aRow 2 64 0 ∷ []);
       comes = record { succ = 6 ∷ 4 ∷ 0 ∷ []; pred = 0 ∷ 1 ∷ 3 ∷ []; rule = some (faulty 24 (Between 2 0 1 64)); bars = []; settled = Orderly };
     }
     -- a bar by (a): event 2 has the range of the read in its second slot
     ∷ record {
       x = of (inits ∷ by 1 (writing 2 64 (1 ∷ []) ∷ []) ∷ by 2 (reading 1 0 (0 ∷ []) ∷ writing 2 64 (2 ∷ []) ∷ []) ∷ by 3 (reading 2 64 (1 ∷ []) ∷ []) ∷ [])
-          (row 2 0 0 ∷ row 3 64 1 ∷ []);
+          (aRow 2 0 0 ∷ aRow 3 64 1 ∷ []);
       comes = record { succ = 14 ∷ 8 ∷ 0 ∷ 0 ∷ []; pred = 0 ∷ 1 ∷ 1 ∷ 3 ∷ []; rule = none; bars = (3, (1, 2)) ∷ []; settled = Orderly };
     }
     -- an unsettled pair by the second accesses alone
     ∷ record {
-      x = of (inits ∷ by 1 (writing 1 0 (1 ∷ []) ∷ writing 1 64 (1 ∷ []) ∷ []) ∷ by 2 (writing 1 128 (1 ∷ []) ∷ reading 1 64 (0 ∷ []) ∷ []) ∷ []) (row 2 64 0 ∷ []);
+      x = of (inits ∷ by 1 (writing 1 0 (1 ∷ []) ∷ writing 1 64 (1 ∷ []) ∷ []) ∷ by 2 (writing 1 128 (1 ∷ []) ∷ reading 1 64 (0 ∷ []) ∷ []) ∷ []) (aRow 2 64 0 ∷ []);
       comes = record { succ = 6 ∷ 0 ∷ 0 ∷ []; pred = 0 ∷ 1 ∷ 1 ∷ []; rule = none; bars = []; settled = Unsettled 1 2 };
     }
     -- 25: the read's two bytes, of its second access, are from two writes, one of them by a second access
     ∷ record {
       x = of (by 1 (writing 1 64 (1 ∷ 1 ∷ []) ∷ []) ∷ by 2 (writing 1 0 (1 ∷ []) ∷ writing 1 64 (2 ∷ 2 ∷ []) ∷ []) ∷ by 3 (writing 1 128 (1 ∷ []) ∷ reading 1 64 (1 ∷ 2 ∷ []) ∷ []) ∷ [])
-          (row 2 64 0 ∷ row 2 65 1 ∷ []);
+          (aRow 2 64 0 ∷ aRow 2 65 1 ∷ []);
       comes = record { succ = 0 ∷ 0 ∷ 0 ∷ []; pred = 0 ∷ 0 ∷ 0 ∷ []; rule = some (faulty 25 (Torn 2 0 1)); bars = []; settled = Unsettled 0 1 };
     }
     -- 21: the byte seen by the second access is not the one written

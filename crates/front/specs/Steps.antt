@@ -1,5 +1,5 @@
 -- What the judge's steps give over the tables of an execution, for events with one access or two: what the model's definitions say of it.
--- The steps' own contracts (`Ordered`, `filledIn`, `ruleIn`, `settledIn`) say by form what comes. Proved in proofs/Steps.antt.
+-- The steps' own contracts (`ClosedSteps`, `filledIn`, `ruleIn`, `settledIn`) say by form what comes. Proved in proofs/Steps.antt.
 --     Stored x t n q m p k     the tables t, q, p hold the n events, m rows, k pairs of x
 --     HappensBefore          the masks of successors test happens-before, and those of predecessors are their columns
 --     Bars                   the bars are the model's
@@ -19,7 +19,7 @@ use Rattle.model.specs.Unsettled.{unsettledPair}
 use Rattle.model.specs.Judged.{settledOf}
 use Rattle.model.proofs.Sound.{Sound}
 use Rattle.bars.specs.Bars.{filledIn}
-use Rattle.before.specs.Before.{Ordered}
+use Rattle.before.specs.Before.{ClosedSteps}
 use Rattle.settle.specs.Settle.{settledIn}
 use Rattle.rules.specs.Rules.{ruleIn}
 use Rattle.front.specs.Tabled.{Slotted, Agents, Rowed, Seen, Paired, hbOf, Turned, foundOf}
@@ -36,7 +36,7 @@ pub record Stored (x : Execution) (t : List ℕ) (n : ℕ) (q : List ℕ) (m : �
 
 -- the masks that the step `before` makes of the tables, from empty ones
 abbrev pub Made : List ℕ → ℕ → List ℕ → ℕ → List ℕ → ℕ → List ℕ → List ℕ → Type 0
-Made t n q m p k succ pred = Ordered t n q m p k (replicate slots 0) succ (replicate slots 0) pred
+Made t n q m p k succ pred = ClosedSteps t n q m p k (replicate slots 0) succ (replicate slots 0) pred
 
 -- 01: "Happens-before: the transitive closure of agent order, synchronises-with, and init to every other event whose range overlaps it."
 abbrev pub HappensBefore : Type 0

@@ -9,10 +9,11 @@ use Prim.Native.Nat.{ℕ, _-_, _*_, _<_, _≤_, min}
 use native.Mathlib.Omega.{arith}
 use lib.Dec.{T}
 use lib.ListN.{length, take, replicate}
-use Rattle.basis.proofs.LoopLaws.{true-T, T-true}
+use Rattle.basis.proofs.BoolLaws.{true-T, T-true}
 use Rattle.format.specs.Event.{writesAt}
 use Rattle.format.specs.Execution.{Execution, others}
 use Rattle.format.proofs.EventLaws.{writesAt-nobody}
+use Rattle.format.proofs.ExecutionLaws.{event-inside}
 use Rattle.parse.proofs.PromiseLaws.{promise}
 use Rattle.sets.specs.Mask.{slots}
 use Rattle.marks.specs.Table.{bytesFor, cleared}
@@ -24,6 +25,7 @@ use Rattle.orders.specs.Tables.{tabled}
 use Rattle.orders.specs.Answer.{Fits, Answered}
 use Rattle.orders.specs.Answer as orders
 use Rattle.orders.proofs.OrderLaws.{meets-same, first-same}
+use Rattle.orders.proofs.InitsLaws.{begins-same}
 use Rattle.orders.proofs.AnswerLaws.{ordered-first, ordered-none}
 use Rattle.answer.specs.declared.Names.the-variants.{Nobody}
 use Rattle.answer.specs.declared.Settled.{Settled}
@@ -31,7 +33,6 @@ use Rattle.model.specs.Order.{problem}
 use Rattle.model.specs.Rules.{faulty}
 use Rattle.model.specs.Judged.{needed, JudgedBroken, JudgedConsistent}
 use Rattle.model.proofs.Sound.{Sound, sound}
-use Rattle.model.proofs.EventsLaws.{event-inside}
 use Rattle.model.proofs.HappensLaws.{happens-inside, writer-inside}
 use Rattle.model.proofs.BarLaws.{bar-elim, row-bars}
 use Rattle.model.proofs.OrderLaws.{inits-others, begins}
@@ -41,21 +42,7 @@ use Rattle.bars.specs.Bars.{filledIn}
 use Rattle.settle.specs.Settle.{settledIn}
 use Rattle.front.specs.Tabled.{hbOf}
 use Rattle.front.proofs.SheetLaws.{held-bars, held-settled}
-use Rattle.judge.specs.Admitted.{Unbroken}
-
--- from one problem to an equivalent one
-begins-same : (P Q : Problem) (k : ℕ) → P .events ≡ Q .events → ((a b : ℕ) → P .Before a b ↔ Q .Before a b) → ((r w v : ℕ) → P .Bar r w v ↔ Q .Bar r w v)
-    → Begins Q k → Begins P k
-begins-same P Q k e f g b =
-    record {
-      inits = rw e (b .inits);
-      before-event = λ x y t. rw e (b .before-event x y (f x y .0 t));
-      bar-event = λ r w v t. rw e (b .bar-event r w v (g r w v .0 t));
-      bar-apart = λ r w v t. b .bar-apart r w v (g r w v .0 t);
-      first = λ x y l t. b .first x y l (f x y .0 t);
-      no-bar = λ r w v l t. b .no-bar r w v l (g r w v .0 t);
-      early = λ r w v l t. f w v .1 (b .early r w v l (g r w v .0 t));
-    }
+use Rattle.judge.specs.steps.Admitted.{Unbroken}
 
 module _ {s : List ℕ} {k n m : ℕ} {t q succ pred scratch order bars : List ℕ} (u : Unbroken s k n m t q succ pred scratch order)
     (f : bars ≡ filledIn t (min n slots) succ pred q (min m rowRoom) (replicate (slots * slots) 0)) where

@@ -15,7 +15,6 @@ use Rattle.parse.specs.Parse.{refused, parse}
 use Rattle.entries.specs.Entries.{execution}
 use Rattle.sheet.specs.Handed.{HandedWhole}
 use Rattle.parse.specs.Promise.{WellFormed}
-use Rattle.entries.proofs.EntriesLaws.{events-count}
 use Rattle.parse.proofs.PromiseLaws.{promise}
 use Rattle.sets.specs.Mask.{slots}
 use Rattle.marks.specs.Table.{bytesFor, cleared}
@@ -25,14 +24,15 @@ use Rattle.model.specs.Judged.{needed, lent, admitted, JudgedRefused, JudgedBro
 use Rattle.model.proofs.OrderLaws.{inits-others}
 use Rattle.model.proofs.JudgedLaws.{admitted-whole, whole-admitted}
 use Rattle.tables.specs.Tables.{columns, rowRoom, rowCells, pairRoom}
-use Rattle.before.specs.Before.{Ordered}
+use Rattle.before.specs.Before.{ClosedSteps}
 use Rattle.lay.specs.Lay.{Layered}
 use Rattle.answer.specs.declared.Rule.{Rule}
 use Rattle.answer.specs.declared.Rule.the-variants.{Kept, Breach}
 use Rattle.rules.specs.Rules.{ruleIn}
 use Rattle.front.specs.Tabled.{hbOf, foundOf}
+use Rattle.front.proofs.LaidLaws.{laid-count}
 use Rattle.front.proofs.SheetLaws.{sheet-held, sheet-rules}
-use Rattle.judge.specs.Admitted.{Admits, Unbroken}
+use Rattle.judge.specs.steps.Admitted.{Admits, Unbroken}
 
 -- a sheet that the reader refuses
 pub refused-sheet : {s scratch order : List ℕ} {n p : ℕ} → parse s ≡ refused n p → JudgedRefused s scratch order n p scratch order
@@ -46,7 +46,7 @@ module _ {s : List ℕ} {x : Counts} {at : List ℕ} (h : HandedWhole s x at) wh
   X = execution s x at
 
   events : length (X .events) ≡ x .events
-  events = let z = h .laid .size in let f = h .laid .few in events-count s (x .head .edition) (x .events) at (omega arith)
+  events = laid-count (h .laid)
 
   pub inits-fit : x .inits ≤ x .events
   inits-fit = let e = inits-others X in let i = h .laid .inits in let n = events in omega arith
@@ -87,7 +87,7 @@ module _ {s : List ℕ} {x : Counts} {at : List ℕ} (h : HandedWhole s x at) wh
 
 module _ {s : List ℕ} {x : Counts} {at : List ℕ} {need : ℕ} {scratch order : List ℕ} (a : Admits s x at need scratch order) {t q p : List ℕ}
     (ly : Layered s x at (replicate columns 0) t (replicate rowCells 0) q (replicate 64 0) p) {succ pred : List ℕ}
-    (o : Ordered t (min (x .events) slots) q (min (x .rows) rowRoom) p (min (x .pairs) pairRoom) (replicate slots 0) succ (replicate slots 0) pred) where
+    (o : ClosedSteps t (min (x .events) slots) q (min (x .rows) rowRoom) p (min (x .pairs) pairRoom) (replicate slots 0) succ (replicate slots 0) pred) where
   well : WellFormed (execution s x at)
   well = promise s (execution s x at) (admitted-whole s (length scratch) (length order) (execution s x at) (a .describes) .describes)
 

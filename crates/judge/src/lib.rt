@@ -10,10 +10,10 @@ use tables::PAIR_CELLS;
 use tables::ROW_CELLS;
 ghost use Rattle.sheet.specs.Handed.{HandedWhole};
 ghost use Rattle.model.specs.Judged.{Judged};
-ghost use Rattle.judge.specs.Admitted.{Admits, Unbroken};
+ghost use Rattle.judge.specs.steps.Admitted.{Admits, Unbroken};
 
 // How many masks of bars there are: one for each V and W.
-const BARS: usize = 1024;
+const BARS: usize = SLOTS * SLOTS;
 
 // The last step, where no rule of 21 to 25 is broken: the first order, or 26.
 fn arrange(

@@ -11,8 +11,9 @@ use native.Mathlib.Omega.{arith}
 use native.Mathlib.Nat.{zero-add}
 use lib.ListN.{length, getD, drop}
 use Rattle.basis.specs.Test.{_and_, non, any, find, from}
+use Rattle.basis.proofs.BoolLaws.{or-none}
 use Rattle.basis.proofs.ListLaws.{from-length, from-at}
-use Rattle.basis.proofs.LoopLaws.{or-none, find-none-left, find-found, find-more}
+use Rattle.basis.proofs.FindLaws.{find-none-left, find-found, find-more}
 use Rattle.format.specs.declared.Shape.{Shape}
 use Rattle.format.specs.Shape.{reads}
 use Rattle.format.specs.Event.{Event}

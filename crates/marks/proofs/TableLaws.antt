@@ -18,10 +18,10 @@ use lib.Dec.{eqb}
 use lib.ListN.{length, getD, set, drop, replicate, length-append, length-drop, length-set, length-replicate, getD-replicate, drop-of-length-le, List·getD-append}
 use lib.Seq.{getD-set-same, getD-set-other, drop-set-lt, drop-at}
 use lib.Pow.{pow-pos, pow-add, pow-mono}
+use Rattle.basis.proofs.BoolLaws.{eqb-self, bar-cases, bar-left, bar-right}
 use Rattle.sets.specs.Mask.{mem, insert}
 use Rattle.sets.specs.Count.{count}
 use Rattle.marks.specs.Table.{isMarked, marking, bytesFor, cleared}
-use Rattle.sets.proofs.BoolLaws.{eqb-self, or-cases, or-left, or-right}
 use Rattle.sets.proofs.MaskLaws.{mem-insert, mem-empty}
 use Rattle.sets.proofs.CountLaws.{count-more, count-none}
 
@@ -60,13 +60,13 @@ marked-marking t x y h = marked-set t x y h (insert (getD t (x / 8) 0) (x % 8)) 
 -- the same as facts
 module _ (t : List ℕ) (x : ℕ) (h : x / 8 < length t) where
   pub marking-new : isMarked (marking t x) x ≡ true
-  marking-new = marked-marking t x x h ∙ or-right (isMarked t x) (eqb x x) (eqb-self x)
+  marking-new = marked-marking t x x h ∙ bar-right (isMarked t x) (eqb x x) (eqb-self x)
 
   pub marking-old : (y : ℕ) → isMarked t y ≡ true → isMarked (marking t x) y ≡ true
-  marking-old y g = marked-marking t x y h ∙ or-left (isMarked t y) (eqb y x) g
+  marking-old y g = marked-marking t x y h ∙ bar-left (isMarked t y) (eqb y x) g
 
   pub marking-cases : (y : ℕ) → isMarked (marking t x) y ≡ true → (isMarked t y ≡ true) ⊎ (y ≡ x)
-  marking-cases y g = ⊎-elim inl (λ q. inr (eqb-true y x q)) (or-cases (isMarked t y) (eqb y x) (sym (marked-marking t x y h) ∙ g))
+  marking-cases y g = ⊎-elim inl (λ q. inr (eqb-true y x q)) (bar-cases (isMarked t y) (eqb y x) (sym (marked-marking t x y h) ∙ g))
 
 -- ---- a cleared table
 

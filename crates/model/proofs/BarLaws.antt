@@ -7,7 +7,8 @@ use mathlib.Core.List.{List·Memᴰ}
 use Prim.Native.Nat.{ℕ}
 use lib.Dec.{T, eqb, eqb→eq, eqb-refl}
 use Rattle.basis.specs.Test.{_and_, _or_}
-use Rattle.basis.proofs.TestLaws.{and-elim, and-intro, non-elim, non-intro, any-elim, any-intro}
+use Rattle.basis.proofs.BoolLaws.{and-elim, and-intro, non-elim, non-intro}
+use Rattle.basis.proofs.LoopLaws.{any-elim, any-intro}
 use Rattle.format.specs.declared.Row.{Row}
 use Rattle.format.specs.Shape.{sc}
 use Rattle.format.specs.Event.{writesAt}

@@ -1,15 +1,16 @@
 -- The table of happens-before of proofs/Outcome.antt. Assumes nothing.
 --     table-tests     it tests happens-before
-use mathlib.Core.Path.{_≡_, refl, sym, _∙_, ap, subst}
+use mathlib.Core.Path.{_≡_, _∙_, ap, subst}
 use mathlib.Core.Bool.{Bool, false}
 use mathlib.Core.List.{List, []}
 use Prim.Native.Nat.{ℕ, zero, suc, _+_, _≤_, _<_}
 use native.Mathlib.Omega.{arith}
-use native.Mathlib.Nat.{suc-add, add-suc, zero-add, add-zero}
+use native.Mathlib.Nat.{zero-add}
 use native.Mathlib.Decide.{decLt}
 use lib.Dec.{T}
 use lib.ListN.{length, getD}
 use Rattle.basis.specs.Test.{_and_, _or_, each, from}
+use Rattle.basis.proofs.ListLaws.{each-at, each-past}
 use Rattle.format.specs.Execution.{Execution}
 use Rattle.model.specs.Happens.{step, Happens, one, more, Tests}
 use Rattle.model.proofs.Warshall.{sound, start, closed}
@@ -17,33 +18,20 @@ use Rattle.model.proofs.Sound.{Sound}
 use Rattle.model.proofs.HappensLaws.{happens-trans, step-inside, happens-inside}
 use Rattle.model.proofs.Outcome.{table, look, through, warshall, hbTable}
 
-module _ {A : Type 0} where
-  each-inside : (f : ℕ → A) (n s i : ℕ) (d : A) → i < n → getD (each f (from s n)) i d ≡ f (s + i)
-  unfolding each from
-  each-inside f zero s i d h = absurd (omega arith)
-  each-inside f (suc n) s zero d h = ap f (sym (add-zero s))
-  each-inside f (suc n) s (suc i) d h = each-inside f n (suc s) i d (omega arith) ∙ ap f (suc-add s i ∙ sym (add-suc s i))
-
-  each-outside : (f : ℕ → A) (n s i : ℕ) (d : A) → n ≤ i → getD (each f (from s n)) i d ≡ d
-  unfolding each from
-  each-outside f zero s i d h = refl
-  each-outside f (suc n) s zero d h = absurd (omega arith)
-  each-outside f (suc n) s (suc i) d h = each-outside f n (suc s) i d (omega arith)
-
 look-table : (n : ℕ) (f : ℕ → ℕ → Bool) (a b : ℕ) → a < n → b < n → look (table n f) a b ≡ f a b
 unfolding table look
 look-table n f a b h k =
-    ap (λ (l : List Bool). getD l b false) (each-inside (λ (c : ℕ). each (f c) (from 0 n)) n 0 a [] h)
-    ∙ each-inside (f (0 + a)) n 0 b false k ∙ ap (λ (c : ℕ). f c (0 + b)) (zero-add a) ∙ ap (f a) (zero-add b)
+    ap (λ (l : List Bool). getD l b false) (each-at (λ (c : ℕ). each (f c) (from 0 n)) n 0 a [] h)
+    ∙ each-at (f (0 + a)) n 0 b false k ∙ ap (λ (c : ℕ). f c (0 + b)) (zero-add a) ∙ ap (f a) (zero-add b)
 
 look-row-out : (n : ℕ) (f : ℕ → ℕ → Bool) (a b : ℕ) → n ≤ a → look (table n f) a b ≡ false
 unfolding table look
-look-row-out n f a b h = ap (λ (l : List Bool). getD l b false) (each-outside (λ (c : ℕ). each (f c) (from 0 n)) n 0 a [] h)
+look-row-out n f a b h = ap (λ (l : List Bool). getD l b false) (each-past (λ (c : ℕ). each (f c) (from 0 n)) n 0 a [] h)
 
 look-out : (n : ℕ) (f : ℕ → ℕ → Bool) (a b : ℕ) → a < n → n ≤ b → look (table n f) a b ≡ false
 unfolding table look
 look-out n f a b h k =
-    ap (λ (l : List Bool). getD l b false) (each-inside (λ (c : ℕ). each (f c) (from 0 n)) n 0 a [] h) ∙ each-outside (f (0 + a)) n 0 b false k
+    ap (λ (l : List Bool). getD l b false) (each-at (λ (c : ℕ). each (f c) (from 0 n)) n 0 a [] h) ∙ each-past (f (0 + a)) n 0 b false k
 
 look-inside : (n : ℕ) (f : ℕ → ℕ → Bool) (a b : ℕ) → T (look (table n f) a b) → (a < n) × (b < n) × T (f a b)
 look-inside n f a b t = go (decLt a n) (decLt b n)

@@ -4,11 +4,12 @@ use mathlib.Core.Logic.{⊎-elim}
 use mathlib.Core.Bool.{Bool}
 use mathlib.Core.List.{List, _++_}
 use mathlib.Core.Option.{Option, none, some}
-use Prim.Native.Nat.{ℕ, zero, suc, _≤_, _<_}
+use Prim.Native.Nat.{ℕ, zero, _≤_}
 use native.Mathlib.Omega.{arith}
-use lib.ListN.{length, getD, take, drop, replicate}
+use lib.ListN.{length, getD, take, drop}
 use lib.Seq.{take-take}
 use Rattle.basis.specs.Test.{from}
+use Rattle.basis.proofs.ListLaws.{zeros-at}
 use Rattle.format.specs.Execution.{Execution, inits}
 use Rattle.parse.specs.Parse.{whole, parse}
 use Rattle.parse.specs.Described.{described, Rowless}
@@ -31,7 +32,7 @@ use Rattle.model.specs.Rules.{faulty, fault}
 use Rattle.model.specs.Order.{problem}
 use Rattle.model.specs.Unsettled.{unsettledPair}
 use Rattle.model.specs.Judged.{needed, Breaks, settledOf, JudgedConsistent, Judged}
-use Rattle.model.specs.Demands.{IsRefused, IsConsistent, Result, Refuses, by-sheet, short-scratch, short-order, Demand1, Allowed, Meant, Demand2, Testable, Demand3, Agreement, SaysTheVerdict, OneVerdict, NeverShort, Rowed, OneRowEach, Left, LeavesZero, FitsWord, SameWord, InitsFirst, FirstNamed, LowestPair, Reduction}
+use Rattle.model.specs.Demands.{IsRefused, IsConsistent, Result, Refuses, by-sheet, short-scratch, short-order, Demand1, Allowed, Meant, Demand2, Testable, Demand3, Agreement, SaysTheVerdict, OneVerdict, NeverShort, OneRowEach, Leaves, LeavesZero, FitsWord, SameWord, InitsFirst, FirstNamed, LowestPair, Reduction}
 use Rattle.model.proofs.Sound.{Sound, sound}
 use Rattle.model.proofs.UnsettledLaws.{none-orderly, orderly-none}
 use Rattle.model.proofs.Serial.{explains}
@@ -160,14 +161,9 @@ result s scratch order =
 
 -- ---- the buffers
 
-zeros-at : (n : ℕ) (l : List ℕ) (i : ℕ) → i < n → getD (replicate n 0 ++ l) i 1 ≡ 0
-zeros-at zero l i h = absurd (omega arith)
-zeros-at (suc n) l zero h = refl
-zeros-at (suc n) l (suc i) h = zeros-at n l i (omega arith)
-
 left : (s scratch scratch′ : List ℕ) (y x : Execution) → y ≡ x → needed y ≤ length scratch → scratch′ ≡ cleared (needed y) scratch
     → (answer : Answer) (order order′ : List ℕ) → ((IsConsistent answer → ⊥) → order′ ≡ order)
-    → (IsConsistent answer → drop (length (x .events)) order′ ≡ drop (length (x .events)) order) → Left x scratch order answer scratch′ order′
+    → (IsConsistent answer → drop (length (x .events)) order′ ≡ drop (length (x .events)) order) → Leaves x scratch order answer scratch′ order′
 left s scratch scratch′ y x e fits c answer order order′ b d =
     let q : scratch′ ≡ cleared (needed x) scratch = c ∙ ap (λ (z : Execution). cleared (needed z) scratch) e in
     let f : needed x ≤ length scratch = subst (λ (z : Execution). needed z ≤ length scratch) e fits in

@@ -12,7 +12,9 @@ use Prim.Native.Nat.{ℕ}
 use lib.ListN.{length, take}
 use lib.Dec.{T, eqb}
 use Rattle.basis.specs.Test.{_and_, _or_, any}
-use Rattle.basis.proofs.TestLaws.{and-elim, and-intro, or-cases, or-left, or-right, non-elim, non-intro, any-elim, any-intro, find-fewer}
+use Rattle.basis.proofs.BoolLaws.{and-elim, and-intro, or-cases, or-left, or-right, non-elim, non-intro}
+use Rattle.basis.proofs.LoopLaws.{any-elim, any-intro}
+use Rattle.basis.proofs.FindLaws.{find-fewer}
 use Rattle.format.specs.declared.Row.{Row}
 use Rattle.format.specs.declared.Pair.{Pair}
 use Rattle.format.specs.Execution.{Execution, event}

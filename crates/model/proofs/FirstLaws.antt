@@ -10,8 +10,8 @@ use native.Mathlib.Omega.{arith}
 use lib.Dec.{T}
 use lib.ListN.{length}
 use Rattle.basis.specs.Test.{find, across}
-use Rattle.basis.proofs.TestLaws.{across-mem}
-use Rattle.basis.proofs.SortedLaws.{Sorted, Then, find-least, sorted-from, sorted-across}
+use Rattle.basis.proofs.ListLaws.{across-mem}
+use Rattle.basis.proofs.FindLaws.{Sorted, Then, find-least, sorted-from, sorted-across}
 use Rattle.format.specs.declared.Row.{Row}
 use Rattle.format.specs.Execution.{Execution}
 use Rattle.model.specs.Events.{numbers}

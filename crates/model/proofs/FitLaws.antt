@@ -10,15 +10,16 @@ use mathlib.Core.Option.{Option, none, some}
 use Prim.Native.Nat.{ℕ, _+_, _^_, _≤_, _<_}
 use native.Mathlib.Omega.{arith}
 use native.Mathlib.Decide.{decLt}
-use lib.Dec.{T, ltb, ltb→lt}
+use lib.Dec.{ltb→lt}
 use lib.ListN.{length}
-use Rattle.basis.proofs.TestLaws.{and-elim}
+use Rattle.basis.proofs.BoolLaws.{and-elim}
 use Rattle.basis.proofs.ListLaws.{getD-mem}
 use Rattle.format.specs.declared.Shape.{Shape}
 use Rattle.format.specs.Limits.{maxBytes, maxMemory, maxEvents}
 use Rattle.format.specs.Shape.{covers}
-use Rattle.format.specs.Event.{Access, shapeAt, readsAt}
+use Rattle.format.specs.Event.{Access, shapeAt}
 use Rattle.format.specs.Execution.{Execution, event, noRow}
+use Rattle.format.proofs.ExecutionLaws.{shape-mem, reads-covers}
 use Rattle.parse.specs.Parse.{refused, parse}
 use Rattle.parse.specs.Promise.{WellFormed, row}
 use Rattle.parse.proofs.ParseLaws.{too-long}
@@ -26,7 +27,6 @@ use Rattle.parse.proofs.PromiseLaws.{promise}
 use Rattle.parse.proofs.RefusalLaws.{refusal-number, refusal-place}
 use Rattle.answer.specs.declared.Names.{Names}
 use Rattle.answer.specs.declared.Settled.{Settled}
-use Rattle.answer.specs.declared.Settled.the-variants.{Orderly, Unsettled}
 use Rattle.answer.specs.declared.Answer.{Answer}
 use Rattle.answer.specs.declared.Answer.the-variants.{Refused, Broken, Consistent}
 use Rattle.answer.specs.NameOf.{namesOf, pairOf}
@@ -37,8 +37,7 @@ use Rattle.model.specs.Happens.{Tests}
 use Rattle.model.specs.Rules.{faulty}
 use Rattle.model.specs.Unsettled.{unsettledPair}
 use Rattle.model.specs.Judged.{admitted, settledOf, Judged}
-use Rattle.model.specs.Lowest.{Lowest, at-21, at-22, at-23, at-24, at-25, at-26}
-use Rattle.model.proofs.EventsLaws.{shape-mem, reads-covers}
+use Rattle.model.specs.Lowest.{LowestNames, at-21, at-22, at-23, at-24, at-25, at-26}
 use Rattle.model.proofs.Sound.{sound}
 use Rattle.model.proofs.HappensLaws.{reader-inside, writer-inside}
 use Rattle.model.proofs.UnsettledLaws.{unsettled-inside}
@@ -87,7 +86,7 @@ module _ (x : Execution) (wf : WellFormed x) where
         let h : n < shapeAt (event x e) n .start + shapeAt (event x e) n .width = ltb→lt _ _ (and-elim _ _ c .1) in
         omega (arith, h, i, wf .size .1)
 
-  lowest-fits : (hb : ℕ → ℕ → Bool) → Tests x hb → (n : ℕ) (names : Names) → Lowest x hb n names → (n < 256) × FourBelow 255 (namesOf names)
+  lowest-fits : (hb : ℕ → ℕ → Bool) → Tests x hb → (n : ℕ) (names : Names) → LowestNames x hb n names → (n < 256) × FourBelow 255 (namesOf names)
   lowest-fits hb tests n names (at-21 j b t l) =
       let r = reader-below j b in let w = writer-below j b in let a = address-below j b in
       (omega arith, record { first = omega arith; second = omega arith; third = tt; fourth = omega arith })

@@ -16,20 +16,21 @@ use lib.Dec.{T, eqb, ltb→lt, eqb→eq, eqb-refl}
 use lib.ListN.{length, getD}
 use lib.Seq.{getD-drop}
 use Rattle.basis.specs.Test.{_and_, _or_, any}
-use Rattle.basis.proofs.TestLaws.{and-elim, and-intro, or-cases, or-left, or-right, non-elim, any-elim, any-intro, same-test}
-use Rattle.basis.proofs.LoopLaws.{true-T, T-true, false-T}
+use Rattle.basis.proofs.BoolLaws.{and-elim, and-intro, or-cases, or-left, or-right, non-elim, same-test, true-T, T-true, false-T}
+use Rattle.basis.proofs.LoopLaws.{any-elim, any-intro}
 use Rattle.format.specs.declared.Row.{Row}
 use Rattle.format.specs.declared.Pair.{Pair}
 use Rattle.format.specs.declared.Shape.{Shape}
 use Rattle.format.specs.Shape.{reads, sc, overlap}
 use Rattle.format.specs.Event.{isInit, readsAt, shapeAt, writesAt}
 use Rattle.format.specs.Execution.{Execution, event}
+use Rattle.format.proofs.ExecutionLaws.{shape-mem, reads-covers, reads-reads, writes-covers, access-inside, agent-inside, covering-inside}
 use Rattle.sets.specs.Mask.{mem, Has}
 use Rattle.closing.specs.Closure.{Reach, Closed, step as reach-step, more as reach-more}
 use Rattle.sets.proofs.MaskLaws.{mem-empty}
 use Rattle.model.specs.Events.{anyTwo}
 use Rattle.model.specs.Happens.{agentOrder, rowSyncs, synchronises, initFirst, step, Happens, one, more, Tests}
-use Rattle.model.proofs.EventsLaws.{shape-mem, reads-covers, reads-reads, writes-covers, two-elim, access-inside, agent-inside, covering-inside}
+use Rattle.model.proofs.EventsLaws.{two-elim}
 use Rattle.model.proofs.Sound.{Sound}
 
 pub happens-trans : {x : Execution} {a b c : ℕ} → Happens x a b → Happens x b c → Happens x a c

@@ -13,7 +13,7 @@ use native.Mathlib.Omega.{arith}
 use borrow.Author.Tests.{ltb-true, ltb-false}
 use lib.Dec.{ltb, ltb→lt}
 use lib.ListN.{length, take, drop, take-append-drop}
-use Rattle.basis.proofs.LoopLaws.{T-false}
+use Rattle.basis.proofs.BoolLaws.{T-false}
 use Rattle.format.specs.Execution.{Execution}
 use Rattle.parse.specs.Parse.{Parsed, refused, whole, parse}
 use Rattle.marks.specs.Table.{cleared}

@@ -1,6 +1,5 @@
 pub mod Outcome
 pub mod AllEntries
-pub mod ShapeLaws
 pub mod EventsLaws
 pub mod Sound
 pub mod HappensLaws
@@ -23,4 +22,3 @@ pub mod Demands
 pub mod Single
 pub mod Litmus
 pub mod Fewer
-pub mod AcrossLaws

@@ -11,13 +11,13 @@ use Rattle.answer.specs.declared.Answer.{Answer}
 use Rattle.model.specs.Judged.{Judged}
 use Rattle.model.specs.Litmus.{Entry, proved}
 use Rattle.model.specs.Further.{further}
-use Rattle.model.specs.Demands.{Right, LitmusRight}
+use Rattle.model.specs.Demands.{EntryRight, LitmusRight}
 use Rattle.model.proofs.Outcome.{Outcome, outcome}
 use Rattle.model.proofs.AllEntries.{told, comes, stated, litmus, litmus-more}
 use Rattle.model.proofs.Sound.{sound}
 use Rattle.model.proofs.OutcomeLaws.{Says, outcome-judged}
 
-pub entry-judged : (e : Entry) → comes e ≡ stated e → Right e
+pub entry-judged : (e : Entry) → comes e ≡ stated e → EntryRight e
 unfolding told
 entry-judged e t scratch order p q =
     let j = outcome-judged (λ s x d. sound x (promise s x d)) (e .sheet) scratch order in
@@ -29,9 +29,9 @@ entry-judged e t scratch order p q =
       subst (λ (w : Answer × List ℕ). Judged (e .sheet) scratch order (w .0) (cleared (o .used) scratch) (w .1 ++ drop (length (w .1)) order)) t k,
     )
 
-each-right : (l : List Entry) → each comes l ≡ each stated l → (e : Entry) → List·Memᴰ e l → Right e
+each-right : (l : List Entry) → each comes l ≡ each stated l → (e : Entry) → List·Memᴰ e l → EntryRight e
 unfolding each
-each-right l t e (List·Memᴰ·head {x = f} q) = subst Right (sym q) (entry-judged f (head-eq-of-cons-eq t))
+each-right l t e (List·Memᴰ·head {x = f} q) = subst EntryRight (sym q) (entry-judged f (head-eq-of-cons-eq t))
 each-right l t e (List·Memᴰ·tail {xs = k} m) = each-right k (tail-eq-of-cons-eq t) e m
 
 pub litmus-judged : LitmusRight proved

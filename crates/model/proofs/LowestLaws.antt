@@ -4,22 +4,22 @@
 use mathlib.Core.Path.{_≡_, refl, sym, ap, subst, _∙_}
 use mathlib.Core.Logic.{_⊎_, inl, inr}
 use mathlib.Core.Bool.{Bool}
-use mathlib.Core.List.{List, [], _∷_, List·Memᴰ}
+use mathlib.Core.List.{[], _∷_, List·Memᴰ}
 use mathlib.Core.Option.{Option, none, some}
-use Prim.Native.Nat.{ℕ, zero, suc, _≤_, _<_}
+use Prim.Native.Nat.{ℕ, _≤_, _<_}
 use native.Mathlib.Omega.{arith}
-use native.Mathlib.Decide.{decLt, ℕ-discrete}
+use native.Mathlib.Decide.{decLt}
 use lib.Dec.{T, eqb, ltb, eqb→eq, ltb→lt}
-use lib.ListN.{length, getD}
-use Rattle.basis.specs.Test.{_and_, _or_, find, any, across}
-use Rattle.basis.proofs.TestLaws.{and-elim, or-cases, any-elim, find-none, across-left, across-mem}
-use Rattle.basis.proofs.ListLaws.{mem-getD, getD-mem}
-use Rattle.basis.proofs.SortedLaws.{Sorted, Then, find-first}
+use lib.ListN.{length}
+use Rattle.basis.specs.Test.{_and_, find, across}
+use Rattle.basis.proofs.BoolLaws.{and-elim, or-cases}
+use Rattle.basis.proofs.ListLaws.{across-left, across-mem, mem-getD, getD-mem}
+use Rattle.basis.proofs.LoopLaws.{any-elim}
+use Rattle.basis.proofs.FindLaws.{find-none, sorted-by, Then, find-first}
 use Rattle.format.specs.declared.Row.{Row}
-use Rattle.format.specs.Event.{writesAt}
-use Rattle.format.specs.Execution.{Execution, event, rowBelow, noRow}
+use Rattle.format.specs.Execution.{Execution, rowBelow, noRow}
+use Rattle.format.proofs.ExecutionLaws.{writes-covers, covering-inside}
 use Rattle.parse.specs.Promise.{WellFormed, row}
-use Rattle.orders.specs.Order.{Meets}
 use Rattle.orders.specs.First.{Lex}
 use Rattle.orders.proofs.FirstLaws.{Tri, below, same, above, tri}
 use Rattle.answer.specs.declared.Names.{Names}
@@ -27,23 +27,15 @@ use Rattle.answer.specs.declared.Names.the-variants.{Row as OfRow, Event as OfE
 use Rattle.model.specs.Events.{numbers}
 use Rattle.model.specs.Happens.{Tests}
 use Rattle.model.specs.Rules.{breaks21, breaks22, breaks23, breaks24, breaks25, untornFrom, Fault, faulty, fault}
-use Rattle.model.specs.Order.{problem}
 use Rattle.model.specs.Judged.{Breaks}
-use Rattle.model.specs.Lowest.{Lowest, at-21, at-22, at-23, at-24, at-25, at-26, Somewhere, by-21, by-22, by-23, by-24, by-25, by-26, FirstBroken}
-use Rattle.model.proofs.EventsLaws.{writes-covers, covering-inside, number-mem}
-use Rattle.model.proofs.Sound.{Sound, sound}
+use Rattle.model.specs.Lowest.{LowestNames, at-21, at-22, at-23, at-24, at-25, at-26, Somewhere, by-21, by-22, by-23, by-24, by-25, by-26, FirstBroken}
+use Rattle.model.proofs.EventsLaws.{number-mem}
+use Rattle.model.proofs.Sound.{Sound}
 use Rattle.model.proofs.HappensLaws.{reader-inside, writer-inside, happens-inside}
 use Rattle.model.proofs.RulesLaws.{test24, test25, triples, clean, fault-none, fault-21, fault-22, fault-23, fault-24, fault-25}
 use Rattle.model.proofs.FirstLaws.{itself-lowest, between-lowest, torn-lowest}
 
 -- ---- rows, by their numbers
-
-sorted-by : {A : Type 0} (R : A → A → Type 0) (d : A) (l : List A) → ((i j : ℕ) → i < j → j < length l → R (getD l i d) (getD l j d)) → Sorted R l
-sorted-by R d [] h = tt
-sorted-by R d (a ∷ l) h = (
-  (λ c m. let w = mem-getD d m in let b = w .1 in subst (R a) (w .2) (h 0 (suc (w .0)) (omega arith) (omega arith))),
-  sorted-by R d l (λ i j p q. h (suc i) (suc j) (omega arith) (omega arith)),
-)
 
 row-cases : (q r : Row) → T (rowBelow q r) → (q .reader < r .reader) ⊎ ((q .reader ≡ r .reader) × (q .address < r .address))
 unfolding rowBelow
@@ -112,18 +104,18 @@ module _ (x : Execution) (hb : ℕ → ℕ → Bool) (wf : WellFormed x) (so : S
 
   -- a rule that is tested row by row
   module _ (f : Row → Bool) (n : ℕ) (at : (j : ℕ) → j < length (x .rows) → T (f (row x j)) → ((i : ℕ) → i < length (x .rows) → T (f (row x i)) → j ≤ i)
-      → Lowest x hb n (OfRow (row x j .reader) (row x j .writer) (row x j .address))) where
-    by-row : (r : Row) → find f (x .rows) ≡ some r → Lowest x hb n (OfRow (r .reader) (r .writer) (r .address))
+      → LowestNames x hb n (OfRow (row x j .reader) (row x j .writer) (row x j .address))) where
+    by-row : (r : Row) → find f (x .rows) ≡ some r → LowestNames x hb n (OfRow (r .reader) (r .writer) (r .address))
     by-row r e =
         let w = find-first noRow f (x .rows) r e in
-        subst (λ (q : Row). Lowest x hb n (OfRow (q .reader) (q .writer) (q .address))) (w .is)
+        subst (λ (q : Row). LowestNames x hb n (OfRow (q .reader) (q .writer) (q .address))) (w .is)
         (at (w .number) (w .there) (subst (λ (q : Row). T (f q)) (sym (w .is)) (w .passes)) (λ i b t. least i t (decLt i (w .number))))
       where
         least : (i : ℕ) → T (f (row x i)) → Dec (i < find-first noRow f (x .rows) r e .number) → find-first noRow f (x .rows) r e .number ≤ i
         least i t (yes h) = absurd (find-first noRow f (x .rows) r e .none-before i h t)
         least i t (no h) = omega arith
 
-  lowest-22 : (e : ℕ) → find (breaks22 hb) (numbers x) ≡ some e → Lowest x hb 22 (OfEvent e)
+  lowest-22 : (e : ℕ) → find (breaks22 hb) (numbers x) ≡ some e → LowestNames x hb 22 (OfEvent e)
   lowest-22 e h =
       let w = itself-lowest x hb e h in
       at-22 e (w .0) (λ d t. go d (w .1 d (event-22 d t) t))
@@ -132,14 +124,14 @@ module _ (x : Execution) (hb : ℕ → ℕ → Bool) (wf : WellFormed x) (so : S
       go d (inl p) = omega arith
       go d (inr p) = omega arith
 
-  lowest-24 : (r : Row) (v : ℕ) → find (test24 x hb) (across (x .rows) (numbers x)) ≡ some (r, v) → Lowest x hb 24 (Between (r .reader) (r .writer) v (r .address))
+  lowest-24 : (r : Row) (v : ℕ) → find (test24 x hb) (across (x .rows) (numbers x)) ≡ some (r, v) → LowestNames x hb 24 (Between (r .reader) (r .writer) v (r .address))
   lowest-24 r v h =
       let w = between-lowest x hb (λ p q. T (rowBelow p q)) (sorted-by (λ p q. T (rowBelow p q)) noRow (x .rows) (wf .rows-rise)) r v h in
       let k = find-first (noRow, 0) (test24 x hb) (across (x .rows) (numbers x)) (r, v) h in
       let m : List·Memᴰ {A = Row × ℕ} (r, v) (across (x .rows) (numbers x)) =
       subst (λ (p : Row × ℕ). List·Memᴰ p (across (x .rows) (numbers x))) (k .is) (getD-mem (noRow, 0) (across (x .rows) (numbers x)) (k .number) (k .there)) in
       let j = mem-getD noRow (across-left (x .rows) (numbers x) (r, v) m) in
-      subst (λ (q : Row). Lowest x hb 24 (Between (q .reader) (q .writer) v (q .address))) (j .2)
+      subst (λ (q : Row). LowestNames x hb 24 (Between (q .reader) (q .writer) v (q .address))) (j .2)
       (at-24 (j .0) v (j .1) (subst (λ (q : Row). T (breaks24 x hb q v)) (sym (j .2)) (w .0))
       (λ i u b t. go (j .0) (j .1) (j .2) i u b (w .1 (row x i, u) (across-mem (x .rows) (numbers x) (row x i) u (getD-mem noRow (x .rows) i b) (number-mem x u (event-24 (row x i) u t))) t)))
     where
@@ -151,7 +143,7 @@ module _ (x : Execution) (hb : ℕ → ℕ → Bool) (wf : WellFormed x) (so : S
       go j p e i u q (inr (inl d)) = inl (below-row x wf i j q p (subst (λ (k : Row). T (rowBelow k (row x i))) (sym e) d))
       go j p e i u q (inr (inr d)) = inr (same-row x wf j i p q (e ∙ sym (d .0)), inl (d .1))
 
-  lowest-25 : (r w v : ℕ) → find (test25 x) (triples x) ≡ some (r, (w, v)) → Lowest x hb 25 (Torn r w v)
+  lowest-25 : (r w v : ℕ) → find (test25 x) (triples x) ≡ some (r, (w, v)) → LowestNames x hb 25 (Torn r w v)
   lowest-25 r w v h =
       let l = torn-lowest x hb r w v h in
       at-25 r w v (l .0) (λ p q u t. let i = events-25 p q u t in
@@ -195,7 +187,7 @@ module _ (x : Execution) (hb : ℕ → ℕ → Bool) (wf : WellFormed x) (so : S
 
   -- ---- the fault that is answered
 
-  named : (n : ℕ) (names : Names) (f : Fault) → Lowest x hb n names → Past n → faulty n names ≡ f → FirstBroken x hb (f .number) (f .names)
+  named : (n : ℕ) (names : Names) (f : Fault) → LowestNames x hb n names → Past n → faulty n names ≡ f → FirstBroken x hb (f .number) (f .names)
   named n names f l p e = subst (λ (g : Fault). FirstBroken x hb (g .number) (g .names)) e (record { lowest = l; none-before = past n p })
 
   same-fault : (f g : Fault) → fault x hb ≡ some f → fault x hb ≡ some g → f ≡ g

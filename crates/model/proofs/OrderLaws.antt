@@ -1,5 +1,5 @@
 -- Places in a list (orders/specs/Order.antt), and the inits: what lets a search begin behind them. Assumes nothing.
---     precedes-left, distinct-apart, distinct-loop     what stands before what, each number once
+--     distinct-apart, distinct-loop                    what stands before what, each number once
 --     precedes-more, precedes-over, in-front           lists put together
 --     inits-others                                     every event is an init or another
 --     meets-length                                     an order that meets the rules has as many entries as there are events
@@ -13,11 +13,12 @@ use native.Mathlib.Omega.{arith}
 use lib.Dec.{T}
 use lib.ListN.{length}
 use Rattle.basis.specs.Test.{_or_}
-use Rattle.basis.proofs.TestLaws.{and-elim, or-cases}
+use Rattle.basis.proofs.BoolLaws.{and-elim, or-cases}
 use Rattle.basis.proofs.LoopLaws.{number-both}
 use Rattle.format.specs.declared.Row.{Row}
 use Rattle.format.specs.Event.{isInit}
 use Rattle.format.specs.Execution.{Execution, event, inits, others}
+use Rattle.format.proofs.ShapeLaws.{both-elim}
 use Rattle.orders.specs.Order.{In, Precedes, Distinct}
 use Rattle.orders.specs.Inits.{Begins}
 use Rattle.orders.specs.Order.{Meets}
@@ -29,15 +30,9 @@ use Rattle.model.specs.Events.{atRow}
 use Rattle.model.specs.Happens.{rowSyncs, Tests}
 use Rattle.model.specs.Bar.{barA, barB, barC}
 use Rattle.model.specs.Order.{problem}
-use Rattle.model.proofs.ShapeLaws.{both-elim}
 use Rattle.model.proofs.Sound.{Sound}
 use Rattle.model.proofs.HappensLaws.{happens-inside, init-earliest, init-not-sc, reader-inside}
 use Rattle.model.proofs.BarLaws.{RowBars, row-bars, bar-elim}
-
-pub precedes-left : (a b : ℕ) (l : List ℕ) → Precedes a b l → In a l
-precedes-left a b [] h = h
-precedes-left a b (c ∷ l) (inl h) = inl (h .0)
-precedes-left a b (c ∷ l) (inr h) = inr (precedes-left a b l h)
 
 pub distinct-apart : (a : ℕ) (l : List ℕ) → Distinct l → Precedes a a l → ⊥
 distinct-apart a [] d h = h

@@ -10,7 +10,8 @@ use Prim.Native.Nat.{ℕ, _<_}
 use lib.Dec.{T}
 use lib.ListN.{length}
 use Rattle.basis.specs.Test.{find, _else_, mapped, across}
-use Rattle.basis.proofs.TestLaws.{and-elim, find-none, else-none, none-else, mapped-none, none-mapped}
+use Rattle.basis.proofs.BoolLaws.{and-elim}
+use Rattle.basis.proofs.FindLaws.{find-none, else-none, none-else, mapped-none, none-mapped}
 use Rattle.format.specs.declared.Row.{Row}
 use Rattle.format.specs.Execution.{Execution}
 use Rattle.answer.specs.declared.Names.the-variants.{Row as OfRow, Event as OfEvent, Between, Torn}

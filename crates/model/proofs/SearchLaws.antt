@@ -14,8 +14,9 @@ use native.Mathlib.Decide.{ℕ-discrete, decLt}
 use lib.Dec.{T, eqb, eqb→eq, eqb-refl}
 use lib.ListN.{length}
 use Rattle.basis.specs.Test.{_and_, non, any, _else_, mapped, across, from}
-use Rattle.basis.proofs.TestLaws.{and-elim, and-intro, or-cases, or-left, or-right, non-elim, non-intro, any-elim, any-intro, across-left, across-mem, from-mem, from-elim}
-use Rattle.basis.proofs.ListLaws.{from-length}
+use Rattle.basis.proofs.BoolLaws.{and-elim, and-intro, or-cases, or-left, or-right, non-elim, non-intro}
+use Rattle.basis.proofs.ListLaws.{across-left, across-mem, from-mem, from-elim, from-length}
+use Rattle.basis.proofs.LoopLaws.{any-elim, any-intro}
 use Rattle.format.specs.declared.Row.{Row}
 use Rattle.format.specs.Execution.{Execution, inits, others}
 use Rattle.orders.specs.Problem.{Problem}
@@ -129,9 +130,9 @@ member-more c placed d = (
 )
 
 -- what a search comes to
-abbrev pub Result : Problem → (ℕ → Type 0) → Option (List ℕ) → Type 0
-Result P S none = Dead P S
-Result P S (some l) = FirstOf (Runs P S) l
+abbrev pub SearchResult : Problem → (ℕ → Type 0) → Option (List ℕ) → Type 0
+SearchResult P S none = Dead P S
+SearchResult P S (some l) = FirstOf (Runs P S) l
 
 module _ (x : Execution) (hb : ℕ → ℕ → Bool) (so : Sound x) (tests : Tests x hb) where
   -- each event is placed or left, and not both
@@ -220,14 +221,14 @@ module _ (x : Execution) (hb : ℕ → ℕ → Bool) (so : Sound x) (tests : Tes
             (subst (λ (i : ℕ). T (bar x hb (w .0 .0 .reader) (w .0 .0 .writer) i)) (eqb→eq _ _ (p .0)) (mem-bar (w .0) (w .1))) (q .0))
 
   module _ (k : ℕ) (placed rest : List ℕ) (s : Split placed rest) (e₀ : ℕ) (some-left : List·Memᴰ e₀ rest)
-      (ih : (c : ℕ) → List·Memᴰ c rest → Result (problem x hb) (Set (c ∷ placed)) (search hb (barList x hb) k (c ∷ placed) (without c rest))) where
+      (ih : (c : ℕ) → List·Memᴰ c rest → SearchResult (problem x hb) (Set (c ∷ placed)) (search hb (barList x hb) k (c ∷ placed) (without c rest))) where
     abbrev tried : ℕ → Option (List ℕ)
     tried c = gated (free hb (barList x hb) placed rest c) (mapped (λ (l : List ℕ). c ∷ l) (search hb (barList x hb) k (c ∷ placed) (without c rest)))
 
     -- of the events that can be placed, those that are no longer in the list lead to nothing
     tries : (cs : List ℕ) → ((d : ℕ) → List·Memᴰ d cs → List·Memᴰ d rest) → Rising cs
         → ((d : ℕ) → Ready (problem x hb) (Set placed) d → (List·Memᴰ d cs → ⊥) → Dead (problem x hb) (With (Set placed) d))
-        → Result (problem x hb) (Set placed) (firstOf tried cs)
+        → SearchResult (problem x hb) (Set placed) (firstOf tried cs)
     unfolding firstOf _else_ gated mapped
     tries [] sub up done =
         dead-here (problem x hb) (Set placed) (λ h. s .fresh e₀ some-left (h e₀ (s .event e₀ some-left))) (λ e r. done e r (λ m. List·Memᴰ·not-nil m))
@@ -245,9 +246,9 @@ module _ (x : Execution) (hb : ℕ → ℕ → Bool) (so : Sound x) (tests : Tes
             same-or (no q) = done d r (λ m. ⊎-elim q out (List·Memᴰ·cases-cons m))
 
         on : (b : Bool) (o : Option (List ℕ)) → (T b → T (free hb (barList x hb) placed rest c)) → (Ready (problem x hb) (Set placed) c → T b)
-            → Result (problem x hb) (Set (c ∷ placed)) o
-            → (((d : ℕ) → Ready (problem x hb) (Set placed) d → (List·Memᴰ d cs → ⊥) → Dead (problem x hb) (With (Set placed) d)) → Result (problem x hb) (Set placed) (firstOf tried cs))
-            → Result (problem x hb) (Set placed) (gated b (mapped (λ (l : List ℕ). c ∷ l) o) else firstOf tried cs)
+            → SearchResult (problem x hb) (Set (c ∷ placed)) o
+            → (((d : ℕ) → Ready (problem x hb) (Set placed) d → (List·Memᴰ d cs → ⊥) → Dead (problem x hb) (With (Set placed) d)) → SearchResult (problem x hb) (Set placed) (firstOf tried cs))
+            → SearchResult (problem x hb) (Set placed) (gated b (mapped (λ (l : List ℕ). c ∷ l) o) else firstOf tried cs)
         on false none y z res go = go (less (λ r. absurd (z r)))
         on false (some l) y z res go = go (less (λ r. absurd (z r)))
         on true none y z res go = go (less (λ r. same-dead (problem x hb) (Set (c ∷ placed)) (With (Set placed) c) (member-more c placed) res))
@@ -258,7 +259,7 @@ module _ (x : Execution) (hb : ℕ → ℕ → Bool) (so : Sound x) (tests : Tes
               lower = λ d h r. done d r (λ m. ⊎-elim (λ q. omega (arith, h, q)) (λ n. omega (arith, h, up .0 d n)) (List·Memᴰ·cases-cons m));
             }) l (same-first (problem x hb) l (Set (c ∷ placed)) (With (Set placed) c) (member-more c placed) res)
 
-  search-result : (k : ℕ) (placed rest : List ℕ) → length rest ≤ k → Split placed rest → Result (problem x hb) (Set placed) (search hb (barList x hb) k placed rest)
+  search-result : (k : ℕ) (placed rest : List ℕ) → length rest ≤ k → Split placed rest → SearchResult (problem x hb) (Set placed) (search hb (barList x hb) k placed rest)
   unfolding search unlessDone
   search-result zero placed [] h s = first-end (problem x hb) (Set placed) (λ e g. ⊎-elim (λ t. t) (λ m. absurd (List·Memᴰ·not-nil m)) (s .cover e g))
   search-result zero placed (e ∷ l) h s = absurd (omega arith)
@@ -304,6 +305,6 @@ module _ (x : Execution) (hb : ℕ → ℕ → Bool) (so : Sound x) (tests : Tes
       m : ℕ
       m = others (x .events)
 
-      on : (o : Option (List ℕ)) → Result (problem x hb) (Set (from 0 k)) o → Found (mapped (λ (l : List ℕ). from 0 k ++ l) o)
+      on : (o : Option (List ℕ)) → SearchResult (problem x hb) (Set (from 0 k)) o → Found (mapped (λ (l : List ℕ). from 0 k ++ l) o)
       on none d = whole-none (problem x hb) k (begins x hb so tests) (same-dead (problem x hb) (Set (from 0 k)) (Below k) (placed-below k m (inits-others x)) d)
       on (some l) f = whole-first (problem x hb) k (begins x hb so tests) l (same-first (problem x hb) l (Set (from 0 k)) (Below k) (placed-below k m (inits-others x)) f)

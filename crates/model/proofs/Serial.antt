@@ -9,11 +9,15 @@ use mathlib.Core.Option.{none}
 use Prim.Native.Nat.{ℕ}
 use lib.Dec.{T, eqb, eqb→eq}
 use Rattle.basis.specs.Test.{_or_, across}
-use Rattle.basis.proofs.TestLaws.{decide, and-intro, or-left, or-right, non-intro, find-none, across-mem}
+use Rattle.basis.proofs.BoolLaws.{decide, and-intro, or-left, or-right, non-intro}
+use Rattle.basis.proofs.ListLaws.{across-mem}
+use Rattle.basis.proofs.FindLaws.{find-none}
 use Rattle.format.specs.declared.Row.{Row}
 use Rattle.format.specs.Shape.{writes, covers, bothSc}
 use Rattle.format.specs.Event.{shapeAt, writesAt, saw, wrote}
 use Rattle.format.specs.Execution.{Execution, event}
+use Rattle.format.proofs.ShapeLaws.{equal-trans, both-elim, both-intro}
+use Rattle.format.proofs.ExecutionLaws.{reads-covers, writes-covers, writes-writes, covering-inside}
 use Rattle.orders.specs.Order.{Precedes, Distinct, Meets}
 use Rattle.model.specs.Events.{numbers, atRow}
 use Rattle.model.specs.Happens.{rowSyncs, one, Tests}
@@ -22,8 +26,7 @@ use Rattle.model.specs.Bar.{barA, barB, barC}
 use Rattle.model.specs.Order.{problem}
 use Rattle.model.specs.Unsettled.{Orderly}
 use Rattle.model.specs.Memory.{run, Explains}
-use Rattle.model.proofs.ShapeLaws.{equal-trans, both-elim, both-intro}
-use Rattle.model.proofs.EventsLaws.{reads-covers, writes-covers, writes-writes, covering-inside, number-mem}
+use Rattle.model.proofs.EventsLaws.{number-mem}
 use Rattle.model.proofs.Sound.{Sound}
 use Rattle.model.proofs.HappensLaws.{row-step}
 use Rattle.model.proofs.RulesLaws.{clean, test24}

@@ -1,27 +1,26 @@
 -- What the theorems need of an execution, over membership in the lists; it follows from what the reader promises. Assumes nothing.
 --     Sound x, sound     of a well-formed execution
-use mathlib.Core.Path.{_≡_, refl, sym, subst}
-use mathlib.Core.Bool.{Bool, true, false, cond}
-use mathlib.Core.List.{List, [], _∷_, List·Memᴰ, List·Memᴰ·head, List·Memᴰ·tail, List·Memᴰ·eq-of-singleton}
-use Prim.Native.Nat.{ℕ, zero, suc, _<_}
+use mathlib.Core.Path.{_≡_, sym, subst}
+use mathlib.Core.List.{List, List·Memᴰ, List·Memᴰ·eq-of-singleton}
+use Prim.Native.Nat.{ℕ, _<_}
 use native.Mathlib.Omega.{arith}
 use native.Mathlib.Decide.{ℕ-discrete, decLt}
 use lib.Dec.{T, eqb, eqb→eq}
-use lib.ListN.{length, getD}
+use lib.ListN.{length}
 use Rattle.basis.specs.Test.{number}
-use Rattle.basis.proofs.TestLaws.{any-intro, any-elim}
-use Rattle.basis.proofs.LoopLaws.{true-T}
 use Rattle.basis.proofs.ListLaws.{mem-getD, getD-mem}
+use Rattle.basis.proofs.LoopLaws.{any-intro, any-elim, number-front}
 use Rattle.format.specs.declared.Row.{Row}
 use Rattle.format.specs.declared.Pair.{Pair}
 use Rattle.format.specs.Shape.{marks, overlap}
-use Rattle.format.specs.Event.{Access, Event, nobody, isInit, meets, readsAt, writesAt, isMarker}
+use Rattle.format.specs.Event.{Access, nobody, isInit, meets, readsAt, writesAt, isMarker}
 use Rattle.format.specs.Execution.{Execution, eventNo, event, inits, noRow, noPair}
 use Rattle.format.proofs.EventLaws.{isMarker-nobody}
+use Rattle.format.proofs.ShapeLaws.{overlap-sym}
+use Rattle.format.proofs.ExecutionLaws.{event-inside, access-inside}
 use Rattle.parse.specs.Promise.{WellEvent, WellFormed, row, pair}
 use Rattle.model.specs.Events.{anyTwo}
-use Rattle.model.proofs.ShapeLaws.{overlap-sym}
-use Rattle.model.proofs.EventsLaws.{event-inside, access-inside, two-elim}
+use Rattle.model.proofs.EventsLaws.{two-elim}
 
 pub record Sound (x : Execution) : Type 0 where
   pub row-reads : (r : Row) → List·Memᴰ r (x .rows) → T (readsAt (event x (r .reader)) (r .address))
@@ -35,25 +34,6 @@ pub record Sound (x : Execution) : Type 0 where
   pub init-low : (e : ℕ) → e < inits (x .events) → T (isInit (event x e))
   pub init-access : (e : ℕ) → T (isInit (event x e)) → (a : Access) → List·Memᴰ a (event x e .accesses) → (a .shape .kind ≡ 2) × (a .shape .mode ≡ 0)
   pub init-apart : (e d : ℕ) → T (isInit (event x e)) → T (isInit (event x d)) → (e ≡ d → ⊥) → T (anyTwo overlap (event x e) (event x d)) → ⊥
-
--- where the events that pass stand in front, the first so many are those
-front : (f : Event → Bool) (l : List Event) → ((e d : ℕ) → e < d → d < length l → T (f (getD l d nobody)) → T (f (getD l e nobody)))
-    → (e : ℕ) → e < number f l → T (f (getD l e nobody))
-unfolding number
-front f [] down e h = absurd (omega arith)
-front f (a ∷ l) down e h = go (f a) refl e h (front f l (λ i j q k. down (suc i) (suc j) (omega arith) (omega arith)))
-  where
-    go : (b : Bool) → f a ≡ b → (i : ℕ) → i < cond b (suc (number f l)) (number f l) → ((j : ℕ) → j < number f l → T (f (getD l j nobody))) → T (f (getD (a ∷ l) i nobody))
-    go true q zero k ih = true-T _ q
-    go true q (suc i) k ih = ih i (omega arith)
-    go false q i k ih = lowest i k (ih i k) (ih 0 (omega arith))
-      where
-        some-left : (m : List Event) → 0 < number f m → 0 < length m
-        some-left [] p = p
-        some-left (c ∷ m) p = omega arith
-
-        lowest : (j : ℕ) → j < number f l → T (f (getD l j nobody)) → T (f (getD l 0 nobody)) → T (f (getD (a ∷ l) j nobody))
-        lowest j p t u = absurd (subst T q (down 0 1 (omega arith) (omega (arith, some-left l (omega arith))) u))
 
 module _ (x : Execution) (wf : WellFormed x) where
   of-row : (F : Row → Type 0) → ((j : ℕ) → j < length (x .rows) → F (row x j)) → (r : Row) → List·Memᴰ r (x .rows) → F r
@@ -102,7 +82,7 @@ module _ (x : Execution) (wf : WellFormed x) where
 
   low : (e : ℕ) → e < inits (x .events) → T (isInit (event x e))
   unfolding inits event eventNo
-  low e h = front isInit (x .events) (λ i j l k t. wf .inits-first i j l k t) e h
+  low e h = number-front nobody isInit (x .events) (λ i j l k t. wf .inits-first i j l k t) e h
 
   pub sound : Sound x
   sound = record {

@@ -12,21 +12,17 @@ use native.Mathlib.Decide.{decLt}
 use lib.Dec.{T, lt→ltb}
 use lib.ListN.{length}
 use Rattle.basis.specs.Test.{_or_, across}
-use Rattle.basis.proofs.TestLaws.{decide, and-elim, and-intro, or-cases, or-left, or-right, non-intro, find-none, none-find, across-mem}
+use Rattle.basis.proofs.BoolLaws.{decide, and-elim, and-intro, non-intro, or-sym}
+use Rattle.basis.proofs.ListLaws.{across-mem}
+use Rattle.basis.proofs.FindLaws.{find-none, none-find}
 use Rattle.format.specs.Shape.{writes, covers, bothSc}
 use Rattle.format.specs.Event.{shapeAt}
 use Rattle.format.specs.Execution.{Execution, event}
+use Rattle.format.proofs.ShapeLaws.{both-cover, both-sym}
+use Rattle.format.proofs.ExecutionLaws.{access-inside}
 use Rattle.model.specs.Events.{numbers}
 use Rattle.model.specs.Unsettled.{clash, unsettled, unsettledPair, Orderly}
-use Rattle.model.proofs.ShapeLaws.{both-cover, both-sym}
-use Rattle.model.proofs.EventsLaws.{two-elim, two-at, access-inside, number-mem}
-
-or-sym : (a b : Bool) → T (a or b) → T (b or a)
-or-sym a b t = pick (or-cases a b t)
-  where
-    pick : T a ⊎ T b → T (b or a)
-    pick (inl p) = or-right b a p
-    pick (inr p) = or-left b a p
+use Rattle.model.proofs.EventsLaws.{two-elim, two-at, number-mem}
 
 module _ (x : Execution) (hb : ℕ → ℕ → Bool) where
   pub unsettled-inside : (e d : ℕ) → T (unsettled x hb e d) → (e < length (x .events)) × (d < length (x .events))

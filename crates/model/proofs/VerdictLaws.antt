@@ -3,18 +3,12 @@
 --     judged-verdict              the answer and the order of a Judged result, where both buffers are enough
 --     verdict-few                 the order that is told has at most as many entries as a sheet can have events
 --     verdict-unique              of a sheet one thing is to be said
-use mathlib.Core.Path.{_≡_, refl, sym, ap, _∙_, subst}
-use mathlib.Core.Logic.{inl, inr}
-use mathlib.Core.Bool.{Bool, true, false, cond}
+use mathlib.Core.Path.{_≡_, refl, sym, ap, _∙_}
 use mathlib.Core.List.{List, [], _++_}
-use mathlib.Core.Option.{none}
-use Prim.Native.Nat.{ℕ, _+_, _≤_, _<_}
+use Prim.Native.Nat.{ℕ, _≤_}
 use native.Mathlib.Omega.{arith}
-use native.Mathlib.Decide.{decLt}
-use lib.Dec.{ltb, ltb→lt}
 use lib.ListN.{length, take, drop, take-append-drop}
-use Rattle.basis.proofs.LoopLaws.{T-false}
-use Rattle.format.specs.Limits.{maxInits, maxOthers, maxEvents}
+use Rattle.format.specs.Limits.{maxOthers, maxEvents}
 use Rattle.format.specs.Execution.{Execution}
 use Rattle.parse.specs.Parse.{Parsed, refused, whole, parse}
 use Rattle.parse.specs.Promise.{WellFormed}
@@ -28,15 +22,14 @@ use Rattle.orders.proofs.FirstLaws.{first-unique}
 use Rattle.answer.specs.declared.Settled.{Settled}
 use Rattle.answer.specs.declared.Answer.{Answer}
 use Rattle.answer.specs.declared.Answer.the-variants.{Refused, Broken, Consistent}
-use Rattle.model.specs.Happens.{Tests}
-use Rattle.model.specs.Rules.{Fault, faulty, fault}
+use Rattle.model.specs.Rules.{Fault, faulty}
 use Rattle.model.specs.Order.{problem}
 use Rattle.model.specs.Unsettled.{unsettledPair}
 use Rattle.model.specs.Judged.{needed, lent, admitted, Breaks, settledOf, Judged}
 use Rattle.model.specs.Verdict.{maxScratch, SaidBroken, SaidConsistent, Verdict, Reported}
 use Rattle.model.proofs.OrderLaws.{inits-others, meets-length}
 use Rattle.model.proofs.Sound.{sound}
-use Rattle.model.proofs.JudgedLaws.{admitted-whole, whole-admitted, moved, same-whole, never-both, breaks-unique, breaks-not}
+use Rattle.model.proofs.JudgedLaws.{admitted-whole, whole-admitted, moved, never-both, breaks-unique, breaks-not}
 
 module _ (x : Execution) (w : WellFormed x) where
   pub few-events : length (x .events) ≤ maxEvents

@@ -10,7 +10,7 @@ use native.Mathlib.Omega.{arith}
 use native.Mathlib.Nat.{eq-or-lt-of-le}
 use lib.Dec.{T}
 use Rattle.basis.specs.Test.{_and_, _or_}
-use Rattle.basis.proofs.TestLaws.{and-elim, and-intro, or-cases, or-left, or-right}
+use Rattle.basis.proofs.BoolLaws.{and-elim, and-intro, or-cases, or-left, or-right}
 
 module _ (n : ℕ) (f : ℕ → ℕ → Bool) (R : ℕ → ℕ → ℕ → Bool)
     (base : (a b : ℕ) → a < n → b < n → R 0 a b ≡ f a b)

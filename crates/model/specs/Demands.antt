@@ -136,18 +136,18 @@ abbrev pub NeverShort : Type 0
 NeverShort = (s : List ℕ) (n p : ℕ) (o : List ℕ) → Verdict s (Refused n p) o → Refusal s n p × (n ≤ 11)
 
 -- Where the answer is not a refusal, the sheet is well-formed, and each byte of each read has exactly one row.
-pub record Rowed (s : List ℕ) : Type 0 where
+pub record RowForEach (s : List ℕ) : Type 0 where
   pub execution : Execution
   pub sheet : WellSheet s execution
   pub one-row : (e n : ℕ) → T (readsAt (event execution e) n) → OneRow execution e n
 
 abbrev pub OneRowEach : Type 0
 OneRowEach = (s scratch order : List ℕ) (answer : Answer) (scratch′ order′ : List ℕ) → (IsRefused answer → ⊥)
-    → Judged s scratch order answer scratch′ order′ → Rowed s
+    → Judged s scratch order answer scratch′ order′ → RowForEach s
 
 -- 01: "Broken: the needed part of the scratch is zero, the rest and the order buffer unchanged. Consistent: the same for the scratch, and the order
 -- buffer's first bytes, one for each event, hold the order; its rest is unchanged." n is the number of events that are not inits.
-pub record Left (x : Execution) (scratch order : List ℕ) (answer : Answer) (scratch′ order′ : List ℕ) : Type 0 where
+pub record Leaves (x : Execution) (scratch order : List ℕ) (answer : Answer) (scratch′ order′ : List ℕ) : Type 0 where
   pub size : length scratch′ ≡ length scratch
   pub zero : (i : ℕ) → i < max 1 (2 ^ others (x .events) / 8) → getD scratch′ i 1 ≡ 0
   pub rest : drop (max 1 (2 ^ others (x .events) / 8)) scratch′ ≡ drop (max 1 (2 ^ others (x .events) / 8)) scratch
@@ -156,7 +156,7 @@ pub record Left (x : Execution) (scratch order : List ℕ) (answer : Answer) (sc
 
 abbrev pub LeavesZero : Type 0
 LeavesZero = (s scratch order : List ℕ) (answer : Answer) (scratch′ order′ : List ℕ) (x : Execution) → WellSheet s x → (IsRefused answer → ⊥)
-    → Judged s scratch order answer scratch′ order′ → Left x scratch order answer scratch′ order′
+    → Judged s scratch order answer scratch′ order′ → Leaves x scratch order answer scratch′ order′
 
 -- ---- the word
 
@@ -191,13 +191,13 @@ LowestPair = (s scratch order : List ℕ) (e d : ℕ) (scratch′ order′ : Lis
 -- ---- tables, and 01's own sentences
 
 -- For any buffers of the lengths that the entry names, its answer is Judged, with its order in front of the order buffer's rest.
-abbrev pub Right : Entry → Type 0
-Right e = (scratch order : List ℕ) → length scratch ≡ e .room → length order ≡ e .places
+abbrev pub EntryRight : Entry → Type 0
+EntryRight e = (scratch order : List ℕ) → length scratch ≡ e .room → length order ≡ e .places
     → (scratch′ : List ℕ) × Judged (e .sheet) scratch order (e .answer) scratch′ (e .order ++ drop (length (e .order)) order)
 
 -- 01: "The (P) entries form a single table, tested against the definitions by one statement"
 abbrev pub LitmusRight : List Entry → Type 0
-LitmusRight table = (e : Entry) → List·Memᴰ e table → Right e
+LitmusRight table = (e : Entry) → List·Memᴰ e table → EntryRight e
 
 -- Of a well-formed sheet, the definitions of this crate are 01's sentences over events.
 abbrev pub Reduction : Type 0

@@ -1,5 +1,5 @@
 -- A plain byte memory (demand 3): what it holds while the events run one after another. Laws: proofs/MemoryLaws.antt.
---     after x e m          the memory m when event e has run                 run x m o     when the events of o have run, in that order
+--     memoryAfter x e m    the memory m when event e has run                 run x m o     when the events of o have run, in that order
 --     Explains x m o       run so from m, each event reads, byte by byte, what it is recorded to have seen
 -- Assumes nothing.
 use mathlib.Core.Path.{_≡_}
@@ -11,12 +11,12 @@ use Rattle.format.specs.Event.{readsAt, writesAt, saw, wrote}
 use Rattle.format.specs.Execution.{Execution, event}
 
 -- the bytes that the event writes, and all others as they were
-unfoldable pub after : Execution → ℕ → (ℕ → ℕ) → ℕ → ℕ
-after x e m n = cond (writesAt (event x e) n) (wrote (event x e) n) (m n)
+unfoldable pub memoryAfter : Execution → ℕ → (ℕ → ℕ) → ℕ → ℕ
+memoryAfter x e m n = cond (writesAt (event x e) n) (wrote (event x e) n) (m n)
 
 unfoldable pub run : Execution → (ℕ → ℕ) → List ℕ → ℕ → ℕ
 run x m [] = m
-run x m (e ∷ o) = run x (after x e m) o
+run x m (e ∷ o) = run x (memoryAfter x e m) o
 
 -- A read-modify-write reads before it writes: what e reads is what the events in front of it left.
 abbrev pub Explains : Execution → (ℕ → ℕ) → List ℕ → Type 0

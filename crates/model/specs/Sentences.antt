@@ -1,6 +1,6 @@
 -- 01's sentences over events, for executions in which each event has one access: the definitions of this crate, which go access by access (02 §11),
 -- say the same there. Proved in proofs/Single.antt.
---     OneAccess x, shape x e            each event has one access; the access of event e, without its bytes
+--     OneAccessEach x, shape x e        each event has one access; the access of event e, without its bytes
 --     sync01 init01 between01 torn01 bars01 unsettled01     01's sentences, as tests
 --     Meets01 x hb o                    01's sentence on total orders
 --     Reduced x hb                      that they are what specs/ defines
@@ -32,8 +32,8 @@ firstShape (a ∷ l) = a .shape
 unfoldable pub shape : Execution → ℕ → Shape
 shape x e = firstShape (event x e .accesses)
 
-abbrev pub OneAccess : Execution → Type 0
-OneAccess x = (e : ℕ) → e < length (x .events) → (a : Access) × (event x e .accesses ≡ a ∷ [])
+abbrev pub OneAccessEach : Execution → Type 0
+OneAccessEach x = (e : ℕ) → e < length (x .events) → (a : Access) × (event x e .accesses ≡ a ∷ [])
 
 -- 01: "both events are sc with equal ranges"
 abbrev pub sync01 : Execution → ℕ → ℕ → Bool

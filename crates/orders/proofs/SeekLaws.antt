@@ -9,10 +9,10 @@ use mathlib.Core.Logic.{_⊎_, inl, inr, ⊎-elim}
 use mathlib.Core.List.{List, [], _∷_, _++_}
 use native.Mathlib.Omega.{arith}
 use lib.ListN.{length, getD, set, take}
+use Rattle.basis.proofs.BoolLaws.{not-both-ways, false-of}
 use Rattle.sets.specs.Mask.{mem, Has, insert, full, above}
 use Rattle.sets.specs.Count.{count}
 use Rattle.marks.specs.Table.{isMarked, marking}
-use Rattle.sets.proofs.BoolLaws.{not-both-ways, false-of}
 use Rattle.sets.proofs.MaskLaws.{insert-gt, full-of, mem-full, above-lt, above-inj}
 use Rattle.sets.proofs.CountLaws.{size-full}
 use Rattle.marks.proofs.TableLaws.{marking-cases}

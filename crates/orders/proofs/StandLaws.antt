@@ -16,10 +16,10 @@ use borrow.Author.Count.{below-more}
 use lib.Pow.{pow-pos, pow-mono}
 use lib.ListN.{length, getD, set, take, drop, length-append, length-set}
 use lib.Seq.{length-take-le, take-suc, take-suc-set}
+use Rattle.basis.proofs.BoolLaws.{false-of}
 use Rattle.sets.specs.Mask.{slots, mem, Has, insert, remove, full, above}
 use Rattle.sets.specs.Count.{count}
 use Rattle.marks.specs.Table.{isMarked, marking, bytesFor}
-use Rattle.sets.proofs.BoolLaws.{false-of}
 use Rattle.sets.proofs.MaskLaws.{mem-full, insert-lt, insert-old, insert-new, remove-insert, above-lt}
 use Rattle.sets.proofs.CountLaws.{count-le, size-first}
 use Rattle.marks.proofs.TableLaws.{length-marking, drop-marking, marking-new, marking-old, place-within, marks-marking}

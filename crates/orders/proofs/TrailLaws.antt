@@ -13,9 +13,9 @@ use native.Mathlib.Omega.{arith}
 use native.Mathlib.Nat.{add-zero, add-suc, suc-add}
 use lib.Pow.{pow-pos, pow-mono}
 use lib.ListN.{length}
+use Rattle.basis.proofs.BoolLaws.{false-of}
 use Rattle.sets.specs.Mask.{mem, Has, insert, full}
 use Rattle.sets.specs.Count.{count}
-use Rattle.sets.proofs.BoolLaws.{false-of}
 use Rattle.sets.proofs.MaskLaws.{insert-ge, insert-lt, insert-old, full-of}
 use Rattle.sets.proofs.CountLaws.{size-insert, size-full, size-first}
 use Rattle.orders.specs.Problem.{Problem}

@@ -12,8 +12,8 @@ use borrow.Author.Tests.{eqb-true, eqb-false, leb-true, ltb-true, eq-eqb, ne-eqb
 use lib.Dec.{T, eqb, ltb, leb}
 use lib.ListN.{length, getD, take, drop, length-take, length-drop}
 use Rattle.basis.specs.Test.{_and_, _or_, non, any, all}
-use Rattle.basis.proofs.TestLaws.{any-intro}
-use Rattle.basis.proofs.LoopLaws.{true-T, T-true, false-T, and-both, or-either, cond-cases, non-true, and-holds}
+use Rattle.basis.proofs.BoolLaws.{true-T, T-true, false-T, and-both, or-either, cond-cases, non-true, and-holds}
+use Rattle.basis.proofs.LoopLaws.{any-intro}
 use Rattle.format.specs.declared.Head.{Head}
 use Rattle.format.specs.declared.Shape.{Shape}
 use Rattle.format.specs.declared.Row.{Row}

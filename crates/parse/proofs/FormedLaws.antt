@@ -19,9 +19,10 @@ use lib.Dec.{T, eqb, ltb, leb}
 use lib.ListN.{length, getD, length-append, List·getD-append}
 use lib.Seq.{getD-append-seam}
 use Rattle.basis.specs.Test.{_and_, _or_, non, any, all, number, from}
-use Rattle.basis.proofs.TestLaws.{none-find, from-elim}
-use Rattle.basis.proofs.ListLaws.{getD-mem}
-use Rattle.basis.proofs.LoopLaws.{true-T, T-true, or-holds, both-hold, or-second, non-holds, any-at, all-intro, none-intro, number-append, number-snoc}
+use Rattle.basis.proofs.BoolLaws.{true-T, T-true, or-holds, both-hold, or-second, non-holds}
+use Rattle.basis.proofs.ListLaws.{from-elim, getD-mem}
+use Rattle.basis.proofs.LoopLaws.{any-at, all-intro, none-intro, number-append, number-snoc}
+use Rattle.basis.proofs.FindLaws.{none-find}
 use Rattle.format.specs.declared.Head.{Head}
 use Rattle.format.specs.declared.Shape.{Shape}
 use Rattle.format.specs.declared.Row.{Row}

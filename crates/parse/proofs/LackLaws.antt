@@ -18,10 +18,10 @@ use borrow.Author.Tests.{ltb-true, ltb-false, eqb-true, eq-eqb, le-leb, lt-ltb}
 use lib.Dec.{T, eqb, ltb, leb}
 use lib.ListN.{length, getD, List·getD-eq-default}
 use Rattle.basis.specs.Test.{_and_, non, any, from}
-use Rattle.basis.proofs.TestLaws.{decide, and-elim, and-intro, non-elim, non-intro, any-elim, any-intro, find-none, from-elim, from-mem}
-use Rattle.basis.proofs.LoopLaws.{true-T, T-true, false-T, both-hold}
-use Rattle.basis.proofs.ListLaws.{from-length, from-at}
-use Rattle.basis.proofs.SortedLaws.{find-first}
+use Rattle.basis.proofs.BoolLaws.{decide, and-elim, and-intro, non-elim, non-intro, true-T, T-true, false-T, both-hold}
+use Rattle.basis.proofs.ListLaws.{from-elim, from-mem, from-length, from-at}
+use Rattle.basis.proofs.LoopLaws.{any-elim, any-intro}
+use Rattle.basis.proofs.FindLaws.{find-none, find-first}
 use Rattle.format.specs.declared.Row.{Row}
 use Rattle.format.specs.Shape.{reads, covers}
 use Rattle.format.specs.Event.{Access, Event, nobody, lookup, accessAt, shapeAt, readsAt}

@@ -13,7 +13,7 @@ use borrow.Author.Tests.{ltb-true, ltb-false, eqb-true, eqb-false, leb-false, le
 use lib.Dec.{eqb, ltb, leb}
 use lib.ListN.{length}
 use Rattle.basis.specs.Test.{non}
-use Rattle.basis.proofs.LoopLaws.{non-true, both-hold}
+use Rattle.basis.proofs.BoolLaws.{non-true, both-hold}
 use Rattle.format.specs.Limits.{maxInits, maxOthers, maxPairs}
 use Rattle.format.specs.Execution.{Execution, inits, others}
 use Rattle.format.specs.Field.{fieldBytes, nextAt, fieldPlace}

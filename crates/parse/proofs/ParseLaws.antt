@@ -15,7 +15,7 @@ use borrow.Author.Tests.{ltb-true, ltb-false, eqb-true, eqb-false, ne-eqb, le-lt
 use lib.Dec.{ltb, eqb}
 use lib.ListN.{length, getD, length-take, length-drop}
 use Rattle.basis.specs.Test.{non, any}
-use Rattle.basis.proofs.LoopLaws.{non-false}
+use Rattle.basis.proofs.BoolLaws.{non-false}
 use Rattle.format.specs.Limits.{maxBytes}
 use Rattle.format.specs.declared.Head.{Head}
 use Rattle.format.specs.Event.{Event, readsSome}

@@ -12,9 +12,9 @@ use borrow.Author.Tests.{ltb-true, ltb-false, eqb-true, eqb-false, eq-eqb, le-lt
 use lib.Dec.{T, eqb, ltb, leb}
 use lib.ListN.{length, getD, length-append}
 use Rattle.basis.specs.Test.{_and_, _or_, non, any, all, number}
-use Rattle.basis.proofs.TestLaws.{and-intro, or-left, or-right, or-cases, and-elim, any-elim, any-intro}
-use Rattle.basis.proofs.LoopLaws.{true-T, T-true, false-T, T-false, and-both, or-either, non-true, non-false, number-snoc, number-le, all-number}
+use Rattle.basis.proofs.BoolLaws.{and-intro, or-left, or-right, or-cases, and-elim, true-T, T-true, false-T, T-false, and-both, or-either, non-true, non-false}
 use Rattle.basis.proofs.ListLaws.{each-snoc, two-snoc}
+use Rattle.basis.proofs.LoopLaws.{any-elim, any-intro, number-snoc, number-le, all-number}
 use Rattle.format.specs.declared.Head.{Head}
 use Rattle.format.specs.declared.Row.{Row}
 use Rattle.format.specs.declared.Pair.{Pair}

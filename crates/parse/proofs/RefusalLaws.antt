@@ -17,9 +17,9 @@ use borrow.Author.Tests.{ltb-true, ltb-false, eqb-true, eqb-false, ne-eqb}
 use lib.Dec.{T, eqb, ltb}
 use lib.ListN.{length, getD, length-append, List·getD-eq-default, List·getD-append}
 use Rattle.basis.specs.Test.{non, any}
-use Rattle.basis.proofs.TestLaws.{any-elim, any-intro}
-use Rattle.basis.proofs.LoopLaws.{true-T, false-T, non-true, non-false}
+use Rattle.basis.proofs.BoolLaws.{true-T, false-T, non-true, non-false}
 use Rattle.basis.proofs.ListLaws.{snoc-split, last-at, each-snoc, mem-getD, getD-mem}
+use Rattle.basis.proofs.LoopLaws.{any-elim, any-intro}
 use Rattle.format.specs.Limits.{maxBytes}
 use Rattle.format.specs.Layout.{accessOf, eventOf}
 use Rattle.format.specs.Event.{Event, nobody, readsSome}

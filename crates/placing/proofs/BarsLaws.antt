@@ -10,8 +10,8 @@ use mathlib.Core.List.{List}
 use native.Mathlib.Omega.{arith}
 use native.Mathlib.Decide.{ℕ-discrete}
 use lib.Bits.{bitAnd, bitOr, and-le-l}
+use Rattle.basis.proofs.BoolLaws.{not-both-ways, and-parts, bar-left, bar-right}
 use Rattle.sets.specs.Mask.{slots, mem, Has, Within, insert, remove, Lowest}
-use Rattle.sets.proofs.BoolLaws.{not-both-ways, and-parts, or-left, or-right}
 use Rattle.sets.proofs.MaskLaws.{mem-lt, mem-and, mem-or, mem-empty, remove-le, remove-old, remove-cases, insert-new, insert-old, insert-cases}
 use Rattle.placing.specs.Placing.{barAt, Unbarred, Readers, Writers}
 
@@ -24,8 +24,8 @@ pub readers-more : (bars : List ℕ) (v j c : ℕ) → Readers j bars v c → Re
 readers-more bars v j c have w r l h = mem-or c (barAt bars v j) r ∙ go (ℕ-discrete w j)
   where
     go : Dec (w ≡ j) → (mem c r || mem (barAt bars v j) r) ≡ true
-    go (yes e) = or-right (mem c r) (mem (barAt bars v j) r) (subst (λ (i : ℕ). Has (barAt bars v i) r) e h)
-    go (no e) = or-left (mem c r) (mem (barAt bars v j) r) (have w r (omega (arith, e)) h)
+    go (yes e) = bar-right (mem c r) (mem (barAt bars v j) r) (subst (λ (i : ℕ). Has (barAt bars v i) r) e h)
+    go (no e) = bar-left (mem c r) (mem (barAt bars v j) r) (have w r (omega (arith, e)) h)
 
 -- without a reader there is no writer
 pub writers-empty : (m : ℕ) (bars : List ℕ) (v c : ℕ) → m ≤ slots → Readers slots bars v c → c ≡ 0 → Writers m bars v 0

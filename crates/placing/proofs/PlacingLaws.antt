@@ -10,8 +10,8 @@ use native.Mathlib.Omega.{arith}
 use native.Mathlib.Decide.{decLt}
 use lib.ListN.{length, getD}
 use lib.Seq.{ext-getD, getD-drop}
+use Rattle.basis.proofs.BoolLaws.{bool-ext, not-both-ways, false-of, by-bool}
 use Rattle.sets.specs.Mask.{mem, Has}
-use Rattle.sets.proofs.BoolLaws.{bool-ext, not-both-ways, false-of, by-bool}
 use Rattle.sets.proofs.MaskLaws.{ext-all, mem-empty}
 use Rattle.placing.specs.Placing.{barAt, Writers, Gathers, NextFree, Entered}
 

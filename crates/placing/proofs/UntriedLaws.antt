@@ -6,8 +6,8 @@ use mathlib.Core.Bool.{Bool, true, false}
 use mathlib.Core.Logic.{_⊎_, inl, inr, ⊎-elim}
 use Prim.Native.Nat.{ℕ, _^_, _<_, _≤_, min}
 use native.Mathlib.Omega.{arith}
+use Rattle.basis.proofs.BoolLaws.{not-both-ways, false-of}
 use Rattle.sets.specs.Mask.{slots, mem, Has, remove, Lowest, Rest}
-use Rattle.sets.proofs.BoolLaws.{not-both-ways, false-of}
 use Rattle.sets.proofs.MaskLaws.{lt-of-members, mem-empty, mem-lt, remove-le, remove-old, remove-cases}
 
 module _ (m from : ℕ) (Q : ℕ → Type 0) (seen : ℕ → Bool) where

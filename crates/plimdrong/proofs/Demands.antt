@@ -7,10 +7,10 @@ use Rattle.answer.specs.Read.{answerIn}
 use Rattle.answer.proofs.ReadLaws.{answer-in}
 use Rattle.model.specs.Judged.{Judged}
 use Rattle.model.proofs.FitLaws.{judged-fits}
-use Rattle.plimdrong.specs.Exported.{Exported}
+use Rattle.plimdrong.specs.JudgedWord.{JudgedWord}
 use Rattle.plimdrong.specs.Demands.{WordTells, SameAnswer}
 
-read : (s scratch order : List ℕ) (r : ℕ) (scratch′ order′ : List ℕ) (e : Exported s scratch order r scratch′ order′) → answerIn r ≡ e .answer
+read : (s scratch order : List ℕ) (r : ℕ) (scratch′ order′ : List ℕ) (e : JudgedWord s scratch order r scratch′ order′) → answerIn r ≡ e .answer
 read s scratch order r scratch′ order′ e =
     ap answerIn (e .word) ∙ answer-in (e .answer) (judged-fits s scratch order (e .answer) scratch′ order′ (e .judged))
 

@@ -5,15 +5,14 @@
 use mathlib.Core.Path.{_≡_}
 use mathlib.Core.List.{List}
 use Prim.Native.Nat.{ℕ}
-use Rattle.answer.specs.declared.Answer.{Answer}
 use Rattle.answer.specs.Read.{answerIn}
 use Rattle.model.specs.Judged.{Judged}
-use Rattle.plimdrong.specs.Exported.{Exported}
+use Rattle.plimdrong.specs.JudgedWord.{JudgedWord}
 
 abbrev pub WordTells : Type 0
-WordTells = (s scratch order : List ℕ) (r : ℕ) (scratch′ order′ : List ℕ) → Exported s scratch order r scratch′ order′
+WordTells = (s scratch order : List ℕ) (r : ℕ) (scratch′ order′ : List ℕ) → JudgedWord s scratch order r scratch′ order′
     → Judged s scratch order (answerIn r) scratch′ order′
 
 abbrev pub SameAnswer : Type 0
 SameAnswer = (s scratch order t room places : List ℕ) (r : ℕ) (scratch′ order′ room′ places′ : List ℕ)
-    → (e : Exported s scratch order r scratch′ order′) (f : Exported t room places r room′ places′) → e .answer ≡ f .answer
+    → (e : JudgedWord s scratch order r scratch′ order′) (f : JudgedWord t room places r room′ places′) → e .answer ≡ f .answer

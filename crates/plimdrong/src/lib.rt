@@ -2,11 +2,11 @@
 // (include/plimdrong.h) declares them; requests of 02 add theirs here. Each byte slice passes as a pointer and then a length, and the answer is
 // a 64-bit word: kind * 2^40 + number * 2^32 + 32 bits. Whoever takes a word apart masks the kind to eight bits: bits 48 and up will carry a
 // region. Names and words stay once they have landed (docs/DECISIONS.md, Exports).
-ghost use Rattle.plimdrong.specs.Exported.{Exported};
+ghost use Rattle.plimdrong.specs.JudgedWord.{JudgedWord};
 
 #[no_mangle]
 pub extern "C" fn plimdrong_judge(sheet: &[u8], scratch: &mut [u8], order: &mut [u8]) -> u64
-    ensures { λ r. ⌜ Exported (now (sheet .entry)) (now (scratch .entry)) (now (order .entry)) r (now (scratch .exit)) (now (order .exit)) ⌝ }
+    ensures { λ r. ⌜ JudgedWord (now (sheet .entry)) (now (scratch .entry)) (now (order .entry)) r (now (scratch .exit)) (now (order .exit)) ⌝ }
 {
     answer::pack(judge::judge(sheet, scratch, order))
 }

@@ -9,9 +9,9 @@ use mathlib.Core.Logic.{_⊎_, inl, inr, ⊎-elim}
 use mathlib.Core.List.{List, [], _∷_, _++_}
 use native.Mathlib.Omega.{arith}
 use lib.ListN.{length, getD, set, take}
+use Rattle.basis.proofs.BoolLaws.{not-both-ways, false-of}
 use Rattle.sets.specs.Mask.{mem, Has, insert, full, above}
 use Rattle.marks.specs.Table.{isMarked, marking}
-use Rattle.sets.proofs.BoolLaws.{not-both-ways, false-of}
 use Rattle.sets.proofs.MaskLaws.{insert-gt, above-lt, above-inj}
 use Rattle.marks.proofs.TableLaws.{marking-new, marking-old, marking-cases}
 use Rattle.orders.specs.Problem.{Problem}

@@ -11,9 +11,9 @@ use native.Mathlib.Omega.{arith}
 use borrow.Author.Tests.{eq-eqb, ne-eqb}
 use lib.Dec.{eqb}
 use lib.Pow.{ones-lt}
+use Rattle.basis.proofs.BoolLaws.{by-bool}
 use Rattle.sets.specs.Mask.{mem, pick, insert, full}
 use Rattle.sets.specs.Count.{count}
-use Rattle.sets.proofs.BoolLaws.{by-bool}
 use Rattle.sets.proofs.MaskLaws.{mem-insert, mem-full, mem-beyond}
 
 pub count-same : (f g : ℕ → Bool) (n : ℕ) → ((x : ℕ) → x < n → f x ≡ g x) → count f n ≡ count g n

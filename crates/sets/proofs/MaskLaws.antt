@@ -25,8 +25,8 @@ use lib.Arith.{lt-one}
 use lib.Pow.{pow-pos, pow-mono, pow-lt, shr-shr, shr-lt, ones-lt, split}
 use lib.Bits.{bitAnd, bitOr, and-shr, or-shr, and-mod, or-mod, or-disjoint, or-lt, and-le-l, and-mask}
 use lib.Count.{trailingZeros, under}
+use Rattle.basis.proofs.BoolLaws.{bool-ext, by-bool, not-both-ways, false-of, eqb-self, bar-cases, bar-left, bar-right, and-parts, and-not-left, not-both}
 use Rattle.sets.specs.Mask.{slots, mem, Has, Within, pick, insert, remove, full, above, Lowest}
-use Rattle.sets.proofs.BoolLaws.{bool-ext, by-bool, not-both-ways, false-of, eqb-self, or-cases, or-left, or-right, and-parts, and-not-left, not-both}
 
 -- ---- the lowest place, and the others
 
@@ -334,13 +334,13 @@ within-antisym a b f g = ext-all a b (λ e. bool-ext (mem a e) (mem b e) (f e) (
 -- ---- a member more, as facts
 
 pub insert-new : (s e : ℕ) → Has (insert s e) e
-insert-new s e = mem-insert s e e ∙ or-right (mem s e) (eqb e e) (eqb-self e)
+insert-new s e = mem-insert s e e ∙ bar-right (mem s e) (eqb e e) (eqb-self e)
 
 pub insert-old : (s e d : ℕ) → Has s d → Has (insert s e) d
-insert-old s e d h = mem-insert s e d ∙ or-left (mem s d) (eqb d e) h
+insert-old s e d h = mem-insert s e d ∙ bar-left (mem s d) (eqb d e) h
 
 pub insert-cases : (s e d : ℕ) → Has (insert s e) d → (d ≡ e) ⊎ Has s d
-insert-cases s e d h = ⊎-elim inr (λ q. inl (eqb-true d e q)) (or-cases (mem s d) (eqb d e) (sym (mem-insert s e d) ∙ h))
+insert-cases s e d h = ⊎-elim inr (λ q. inl (eqb-true d e q)) (bar-cases (mem s d) (eqb d e) (sym (mem-insert s e d) ∙ h))
 
 pub remove-old : (s e d : ℕ) → Has (remove s e) d → Has s d
 remove-old s e d h = and-parts (mem s d) (not (eqb d e)) (sym (mem-remove s e d) ∙ h) .0

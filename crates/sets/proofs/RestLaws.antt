@@ -7,8 +7,8 @@ use Prim.Native.Nat.{ℕ, _-_, _^_, _<_, _≤_, min}
 use native.Mathlib.Omega.{arith}
 use native.Mathlib.Decide.{decLt}
 use lib.Bits.{bitAnd}
+use Rattle.basis.proofs.BoolLaws.{bool-ext, not-both-ways, false-of, and-parts}
 use Rattle.sets.specs.Mask.{slots, mem, Has, full, Rest}
-use Rattle.sets.proofs.BoolLaws.{bool-ext, not-both-ways, false-of, and-parts}
 use Rattle.sets.proofs.MaskLaws.{ext-all, mem-diff, mem-full, full-has, lt-of-members}
 
 module _ (s from n : ℕ) (few : n ≤ slots) (fits : s < 2 ^ slots) where

@@ -13,12 +13,10 @@ use borrow.Author.Tests.{lt-ltb, le-ltb, ltb-true}
 use lib.Dec.{ltb}
 use lib.ListN.{getD}
 use Rattle.basis.specs.Test.{_and_, _or_, non}
-use Rattle.basis.proofs.LoopLaws.{and-holds, and-fails, and-both, non-holds}
-use Rattle.basis.proofs.BoolLaws.{and-assoc, non-fails}
+use Rattle.basis.proofs.BoolLaws.{and-holds, and-fails, and-both, non-holds, and-assoc, non-fails, bool-ext, false-of, not-both-ways}
 use Rattle.format.specs.declared.Shape.{Shape}
 use Rattle.format.specs.Shape.{writes, overlap, bothSc}
 use Rattle.sets.specs.Mask.{slots, mem, Lowest, Rest}
-use Rattle.sets.proofs.BoolLaws.{bool-ext, false-of, not-both-ways}
 use Rattle.sets.proofs.MaskLaws.{lt-of-members, ext-all}
 use Rattle.answer.specs.declared.Settled.the-variants.{Orderly, Unsettled}
 use Rattle.cells.specs.First.{firstOf}
@@ -26,7 +24,8 @@ use Rattle.cells.specs.Walk.{picked}
 use Rattle.cells.proofs.FirstLaws.{first-found, Left, left-start, left-lowest, left-hit, left-end, first-past, first-below}
 use Rattle.cells.proofs.WalkLaws.{mem-picked}
 use Rattle.tables.proofs.TablesLaws.{overlap-left, overlap-right}
-use Rattle.settle.specs.Settle.{clashing, clashIn, aheadIn, freeIn, openIn, partnerIn, looseIn, settledIn}
+use Rattle.settle.specs.Settle.{clashing, clashIn, openIn, partnerIn, looseIn, settledIn}
+use Rattle.settle.specs.steps.Ahead.{aheadIn, freeIn}
 
 -- what overlaps nothing clashes with nothing
 clash-none : (a b : Shape) → overlap a b ≡ false → clashing a b ≡ false

@@ -1,6 +1,5 @@
 -- Unsettled pairs over the tables. Laws: proofs/SettleLaws.antt.
 --     clashing a b           two accesses that happens-before has to settle       clashIn t e d     one of e and one of d are
---     aheadIn row e d        d is above e, and not in the row of e                freeIn t succ e d     e is not in the row of d, and they clash
 --     openIn t succ e d      e and d, e below d, are an unsettled pair
 --     partnerIn t succ n e   the lowest d below n that is open with e; n where none is
 --     settledIn t succ n     orderly, or the lowest pair
@@ -24,12 +23,6 @@ clashing a b = overlap a b and (writes a or writes b) and non (bothSc a b)
 
 unfoldable pub clashIn : List ℕ → ℕ → ℕ → Bool
 clashIn t e d = acrossIn clashing t e d
-
-unfoldable pub aheadIn : ℕ → ℕ → ℕ → Bool
-aheadIn row e d = ltb e d and non (mem row d)
-
-unfoldable pub freeIn : List ℕ → List ℕ → ℕ → ℕ → Bool
-freeIn t succ e d = non (mem (getD succ d 0) e) and clashIn t e d
 
 unfoldable pub openIn : List ℕ → List ℕ → ℕ → ℕ → Bool
 openIn t succ e d = ltb e d and non (mem (getD succ e 0) d) and non (mem (getD succ d 0) e) and clashIn t e d

@@ -8,7 +8,8 @@ ghost use mathlib.Core.Path.{_≡_};
 ghost use Prim.Native.Nat.{_%_, min};
 ghost use Rattle.sets.specs.Mask.{slots};
 ghost use Rattle.cells.specs.First.{firstOf};
-ghost use Rattle.settle.specs.Settle.{clashing, clashIn, freeIn, openIn, settledIn};
+ghost use Rattle.settle.specs.Settle.{clashing, clashIn, openIn, settledIn};
+ghost use Rattle.settle.specs.steps.Ahead.{freeIn};
 
 // Do two accesses want an order: they share a byte, one writes, and they are not both sc with equal ranges?
 fn clash(a: Shape, b: Shape) -> bool

@@ -12,7 +12,7 @@ ghost use Rattle.answer.specs.Word.{packed};
 ghost use Rattle.answer.specs.declared.Answer.the-variants.{Consistent};
 ghost use Rattle.sets.specs.Mask.{slots};
 ghost use Rattle.tables.specs.Tables.{rowRoom, pairRoom};
-ghost use Rattle.before.specs.Before.{Ordered};
+ghost use Rattle.before.specs.Before.{ClosedSteps};
 ghost use Rattle.bars.specs.Bars.{filledIn};
 ghost use Rattle.settle.specs.Settle.{settledIn};
 ghost use Rattle.rules.specs.Rules.{ruleIn};
@@ -29,7 +29,7 @@ pub extern "C" fn steps_before(
     succ: &mut [u32],
     pred: &mut [u32],
 )
-    ensures { λ _. ⌜ Ordered (now (t .entry)) (min events slots) (now (q .entry)) (min rows rowRoom) (now (p .entry)) (min pairs pairRoom) (now (succ .entry)) (now (succ .exit)) (now (pred .entry)) (now (pred .exit)) ⌝ }
+    ensures { λ _. ⌜ ClosedSteps (now (t .entry)) (min events slots) (now (q .entry)) (min rows rowRoom) (now (p .entry)) (min pairs pairRoom) (now (succ .entry)) (now (succ .exit)) (now (pred .entry)) (now (pred .exit)) ⌝ }
 {
     before::fill(t, events, q, rows, p, pairs, succ, pred);
 }

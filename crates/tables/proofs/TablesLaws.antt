@@ -16,11 +16,9 @@ use lib.Dec.{ltb, eqb}
 use Rattle.format.specs.declared.Shape.{Shape}
 use Rattle.format.specs.declared.Row.{Row}
 use Rattle.basis.specs.Test.{_and_, _or_}
-use Rattle.basis.proofs.LoopLaws.{or-holds, or-fails}
-use Rattle.basis.proofs.BoolLaws.{and-false, bar-or}
+use Rattle.basis.proofs.BoolLaws.{or-holds, or-fails, and-false, bar-or, by-bool, and-parts}
 use Rattle.format.specs.Shape.{noShape, covers, overlap}
 use Rattle.sets.specs.Mask.{slots}
-use Rattle.sets.proofs.BoolLaws.{by-bool, and-parts}
 use Rattle.tables.specs.Tables.{agentRoom, agentIn, accesses, shapeIn, slotIn, atIn, rowRoom, rowIn, pairIn, acrossIn}
 
 module _ (t : List ℕ) (e a : ℕ) where

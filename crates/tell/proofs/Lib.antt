@@ -1,4 +1,4 @@
-pub mod ToldLaws
+pub mod JudgedLineLaws
 pub mod AgreementLaws
 pub mod PrintedLaws
 pub mod Demands

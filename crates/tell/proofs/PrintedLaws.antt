@@ -22,7 +22,7 @@ use Rattle.model.specs.Verdict.{Verdict}
 use Rattle.model.proofs.VerdictLaws.{judged-verdict, verdict-few, verdict-unique}
 use Rattle.model.proofs.FitLaws.{judged-fits}
 use Rattle.tell.specs.Limits.{maxLine}
-use Rattle.tell.specs.Told.{unused, placed, Told}
+use Rattle.tell.specs.JudgedLine.{unused, placed, JudgedLine}
 use Rattle.tell.specs.Demands.{Enough, Line, Printed}
 
 -- ---- the events placed
@@ -63,7 +63,7 @@ module _ (s order order′ out out′ : List ℕ) (r : ℕ) (a : Answer) (o : Li
 
 -- ---- the sheet
 
-pub told-printed : (s scratch order out : List ℕ) (r : ℕ) (scratch′ order′ out′ : List ℕ) → Enough scratch order out → Told s scratch order out r scratch′ order′ out′
+pub told-printed : (s scratch order out : List ℕ) (r : ℕ) (scratch′ order′ out′ : List ℕ) → Enough scratch order out → JudgedLine s scratch order out r scratch′ order′ out′
     → Printed s order out r order′ out′
 told-printed s scratch order out r scratch′ order′ out′ e t =
     let p = judged-verdict s scratch order (e .scratch-holds) (e .order-holds) scratch′ order′ (t .answer) (t .judged) in

@@ -15,7 +15,7 @@ use Rattle.answer.specs.declared.Answer.{Answer}
 use Rattle.report.specs.Line.{lineOf}
 use Rattle.model.specs.Verdict.{maxScratch, Verdict}
 use Rattle.tell.specs.Limits.{maxLine}
-use Rattle.tell.specs.Told.{unused, Told}
+use Rattle.tell.specs.JudgedLine.{unused, JudgedLine}
 
 pub record Enough (scratch order out : List ℕ) : Type 0 where
   pub scratch-holds : maxScratch ≤ length scratch
@@ -39,7 +39,7 @@ pub record Printed (s order out : List ℕ) (r : ℕ) (order′ out′ : List �
   pub front : order′ ≡ line .order ++ drop (length (line .order)) order
 
 abbrev pub PrintsTheOrder : Type 0
-PrintsTheOrder = (s scratch order out : List ℕ) (r : ℕ) (scratch′ order′ out′ : List ℕ) → Enough scratch order out → Told s scratch order out r scratch′ order′ out′ → Printed s order out r order′ out′
+PrintsTheOrder = (s scratch order out : List ℕ) (r : ℕ) (scratch′ order′ out′ : List ℕ) → Enough scratch order out → JudgedLine s scratch order out r scratch′ order′ out′ → Printed s order out r order′ out′
 
 -- 01: "That any two conforming answers agree is itself proved"
 abbrev pub OneLine : Type 0

@@ -1,3 +1,3 @@
-pub mod Told
+pub mod JudgedLine
 pub mod Limits
 pub mod Demands

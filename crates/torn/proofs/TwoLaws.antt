@@ -1,8 +1,8 @@
 -- The two lowest members of a set, as the machine takes them. Assumes nothing.
 --     Two, two-found, two-none     two members with none between and none below; where the second is missing, there are not two
 --     two-first, two-last          the same as one number, the first that passes `twoIn`
-use mathlib.Core.Path.{_≡_, refl, sym, ap, _∙_, subst}
-use mathlib.Core.Bool.{Bool, true, false, not, _&&_}
+use mathlib.Core.Path.{_≡_, sym, ap, _∙_, subst}
+use mathlib.Core.Bool.{true, false}
 use mathlib.Core.Logic.{⊎-elim}
 use Prim.Native.Nat.{ℕ, _+_, _*_, _/_, _%_, _^_, _≤_, _<_}
 use native.Mathlib.Omega.{arith}
@@ -10,18 +10,12 @@ use native.Mathlib.Nat.{mod-eq-of-lt}
 use native.Mathlib.Decide.{ℕ-discrete, decLt}
 use borrow.Author.Tests.{lt-ltb, ltb-true}
 use lib.Dec.{eqb, ltb}
-use Rattle.basis.specs.Test.{_and_}
-use Rattle.basis.proofs.LoopLaws.{and-holds, and-both}
+use Rattle.basis.proofs.BoolLaws.{and-holds, and-both, not-both-ways, false-of, not-both, eqb-self}
 use Rattle.sets.specs.Mask.{slots, mem, Has, remove, Lowest}
-use Rattle.sets.proofs.BoolLaws.{not-both-ways, false-of, eqb-self}
 use Rattle.sets.proofs.MaskLaws.{mem-remove, mem-empty, mem-lt, remove-le, remove-old, remove-cases}
 use Rattle.cells.specs.First.{firstOf}
 use Rattle.cells.proofs.FirstLaws.{first-is}
 use Rattle.torn.specs.Torn.{twoIn, pairs}
-
-amp-false : (a : Bool) → (a && false) ≡ false
-amp-false true = refl
-amp-false false = refl
 
 pub record Two (m w v : ℕ) : Type 0 where
   pub rising : w < v
@@ -65,7 +59,7 @@ module _ (m w v : ℕ) (width : m < 2 ^ slots) (lw : Lowest m w) (lv : Lowest (r
       apart : Has (remove m w) v → v ≡ w → ⊥
       apart r c =
           not-both-ways r
-          (ap (mem (remove m w)) c ∙ mem-remove m w w ∙ ap (λ (b : Bool). mem m w && not b) (eqb-self w) ∙ amp-false (mem m w))
+          (ap (mem (remove m w)) c ∙ mem-remove m w w ∙ not-both (mem m w) (eqb w w) (λ h. eqb-self w))
 
       above : Has (remove m w) v → Has m v → w < v
       above r c = up (apart r) (λ a. not-both-ways c (lw .least v a))

@@ -1,7 +1,7 @@
 -- Rule 25 over the tables, by masks. Laws: proofs/TornLaws.antt.
 --     untornIn t r                       both ends of the row are tear-free, with equal ranges
 --     sourcesIn t q n l                  the masks l, of which that of each access has gained the writers of its untorn rows, of the first n
---     twoIn m p, pairIn s e p            p stands for two members w < v of m, of one of the sources of event e's accesses: p is w * slots + v
+--     twoIn m p, twoSourcesIn s e p      p stands for two members w < v of m, of one of the sources of event e's accesses: p is w * slots + v
 --     tornIn s e, namedIn s n            e has two sources; 25 at the lowest event below n that has, with its lowest two
 --     rule25In t n q m                   the same from the tables
 -- Assumes nothing.
@@ -29,28 +29,28 @@ untornIn t r =
     and equal (shapeIn t (slotIn t (r .reader % slots) (r .address))) (shapeIn t (slotIn t (r .writer % slots) (r .address)))
 
 -- the masks, of which that of the reader's access has gained the writer, where the row is untorn
-unfoldable pub rowGains : List ℕ → Row → List ℕ → List ℕ
-rowGains t r l = cond (untornIn t r) (gaining l (slotIn t (r .reader % slots) (r .address)) (r .writer % slots)) l
+unfoldable pub sourceGains : List ℕ → Row → List ℕ → List ℕ
+sourceGains t r l = cond (untornIn t r) (gaining l (slotIn t (r .reader % slots) (r .address)) (r .writer % slots)) l
 
 unfoldable pub sourcesIn : List ℕ → List ℕ → ℕ → List ℕ → List ℕ
-sourcesIn t q n l = upTo (λ (j : ℕ). rowGains t (rowIn q j)) n l
+sourcesIn t q n l = upTo (λ (j : ℕ). sourceGains t (rowIn q j)) n l
 
 unfoldable pub twoIn : ℕ → ℕ → Bool
 twoIn m p = ltb (p / slots) (p % slots) and mem m (p / slots) and mem m (p % slots)
 
-unfoldable pub pairIn : List ℕ → ℕ → ℕ → Bool
-pairIn s e p = twoIn (getD s (2 * e) 0) p or twoIn (getD s (2 * e + 1) 0) p
+unfoldable pub twoSourcesIn : List ℕ → ℕ → ℕ → Bool
+twoSourcesIn s e p = twoIn (getD s (2 * e) 0) p or twoIn (getD s (2 * e + 1) 0) p
 
 abbrev pub pairs : ℕ
-pairs = 1024
+pairs = slots * slots
 
 unfoldable pub tornIn : List ℕ → ℕ → Bool
-tornIn s e = ltb (firstOf (pairIn s e) pairs) pairs
+tornIn s e = ltb (firstOf (twoSourcesIn s e) pairs) pairs
 
 unfoldable pub namedIn : List ℕ → ℕ → Rule
 namedIn s n =
     let e = firstOf (tornIn s) n in
-    named e n (Breach 25 (Torn e (firstOf (pairIn s e) pairs / slots) (firstOf (pairIn s e) pairs % slots)))
+    named e n (Breach 25 (Torn e (firstOf (twoSourcesIn s e) pairs / slots) (firstOf (twoSourcesIn s e) pairs % slots)))
 
 unfoldable pub rule25In : List ℕ → ℕ → List ℕ → ℕ → Rule
 rule25In t n q rows = namedIn (sourcesIn t q rows (replicate accesses 0)) n

@@ -14,10 +14,10 @@ ghost use Prim.Native.Nat.{_%_, min};
 ghost use Rattle.sets.specs.Mask.{slots};
 ghost use Rattle.cells.specs.First.{firstOf};
 ghost use Rattle.tables.specs.Tables.{rowRoom};
-ghost use Rattle.torn.specs.Torn.{untornIn, rowGains, sourcesIn, twoIn, pairIn, pairs, tornIn, namedIn, rule25In};
+ghost use Rattle.torn.specs.Torn.{untornIn, sourceGains, sourcesIn, twoIn, twoSourcesIn, pairs, tornIn, namedIn, rule25In};
 
-// Two events as one number, the first times 32 plus the second.
-const PAIRS: usize = 1024;
+// Two events as one number, the first times the slots plus the second.
+const PAIRS: usize = SLOTS * SLOTS;
 
 // Are both ends of the row tear-free, with equal ranges?
 fn untorn(t: &[u8; COLUMNS], r: Row) -> bool
@@ -25,12 +25,12 @@ fn untorn(t: &[u8; COLUMNS], r: Row) -> bool
 {
     let a = tables::shape(t, tables::slot_at(t, r.reader as usize, r.address));
     let b = tables::shape(t, tables::slot_at(t, r.writer as usize, r.address));
-    (a.tear == 1) & ((b.tear == 1) & access::equal(a, b))
+    access::tear_free(a) & (access::tear_free(b) & access::equal(a, b))
 }
 
 // The mask of the reader's access gains the writer, where the row is untorn.
 fn note_row(t: &[u8; COLUMNS], r: Row, masks: &mut [u32])
-    ensures { λ _. ⌜ now (masks .exit) ≡ rowGains (now (t .entry)) r (now (masks .entry)) ⌝ }
+    ensures { λ _. ⌜ now (masks .exit) ≡ sourceGains (now (t .entry)) r (now (masks .entry)) ⌝ }
 {
     if !untorn(t, r) {
         return;
@@ -49,7 +49,7 @@ fn sources(t: &[u8; COLUMNS], q: &[u8; ROW_CELLS], n: usize, masks: &mut [u32])
     }
 }
 
-// The two lowest members of a set, as one number; 1024 where it has fewer.
+// The two lowest members of a set, as one number; `PAIRS` where it has fewer.
 fn two(m: u32) -> usize
     ensures { λ r. ⌜ r ≡ firstOf (twoIn m) pairs ⌝ }
 {
@@ -63,7 +63,7 @@ fn two(m: u32) -> usize
 
 // The lowest two sources that one of event e's accesses has.
 fn pair(s: &[u32; ACCESSES], e: usize) -> usize
-    ensures { λ r. ⌜ r ≡ firstOf (pairIn (now (s .entry)) (e % slots)) pairs ⌝ }
+    ensures { λ r. ⌜ r ≡ firstOf (twoSourcesIn (now (s .entry)) (e % slots)) pairs ⌝ }
 {
     let k = 2 * (e % SLOTS);
     least(two(s[k]), two(s[k + 1]))

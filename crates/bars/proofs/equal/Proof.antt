@@ -1,7 +1,7 @@
 -- `bars::equal` meets its contract, by the mode. Assumes nothing.
 use mathlib.Core.Path.{sym, ap, _∙_}
-use Prim.Native.Nat.{_-_, _%_}
-use borrow.Author.Tests.{eq-eqb, ne-eqb}
+use Prim.Native.Nat.{_%_}
+use borrow.Author.Tests.{not-true, not-false}
 use denote.Ref.{now}
 use lib.ListN.{getD}
 use Rattle.format.specs.declared.Shape.{Shape}
@@ -17,9 +17,11 @@ use Rattle.bars.proofs.equal.Tie as tie
 shape-requires : tie.Need-shape-requires
 shape-requires c κs = search needs
 
+sc-requires : tie.Need-sc-requires
+sc-requires c κs = search needs
+
 returns : tie.Need-returns
-unfolding sc
-returns c = among-none (now (c .before .before .before .args .t)) (now (c .before .before .before .args .starts)) (c .before .before .before .args .k % accesses) (ap sc (sym (c .before .before .shape .ensures)) ∙ ne-eqb (c .before .before .shape .result .mode) 2 (c .if1 .taken))
+returns c = among-none (now (c .before .before .before .args .t)) (now (c .before .before .before .args .starts)) (c .before .before .before .args .k % accesses) (ap sc (sym (c .before .before .shape .ensures)) ∙ sym (c .before .sc .ensures) ∙ not-true (c .before .sc .result) (c .if1 .taken))
 
 cast-among : tie.Need-cast-among
 cast-among c = search needs
@@ -34,18 +36,18 @@ among-requires : tie.Need-among-requires
 among-requires c κs = search needs
 
 returns-2 : tie.Need-returns-2
-unfolding sc
 returns-2 c =
     let t = now (c .before .before .before .before .before .before .args .t) in
     let starts = now (c .before .before .before .before .before .before .args .starts) in
     c .among .ensures ∙ ap (λ (b : Shape). over (getD starts (b .start % bytes) 0) (taking (sharing t b)) 0) (c .before .before .before .before .before .shape .ensures)
-    ∙ among-some t starts (c .before .before .before .before .before .before .args .k % accesses) (ap sc (sym (c .before .before .before .before .before .shape .ensures)) ∙ eq-eqb (c .before .before .before .before .before .shape .result .mode) 2 (c .before .before .before .if1 .left))
+    ∙ among-some t starts (c .before .before .before .before .before .before .args .k % accesses) (ap sc (sym (c .before .before .before .before .before .shape .ensures)) ∙ sym (c .before .before .before .before .sc .ensures) ∙ not-false (c .before .before .before .before .sc .result) (c .before .before .before .if1 .left))
 
 pub equal-spec : {M : Type 1} → statement M
 equal-spec =
     tie.close
     (tie.spec
     shape-requires
+    sc-requires
     returns
     cast-among
     mul-among

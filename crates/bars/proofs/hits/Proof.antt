@@ -13,18 +13,20 @@ use Rattle.bars.proofs.hits.Tie as tie
 returns : tie.Need-returns
 returns c = hits-apart (c .before .before .before .args .a) (c .before .before .before .args .b) (c .if1 .taken)
 
+sc-requires : tie.Need-sc-requires
+sc-requires c κs = search needs
+
 writes-requires : tie.Need-writes-requires
 writes-requires c κs = search needs
 
 returns-2 : tie.Need-returns-2
-unfolding sc
 returns-2 c =
     let a = c .before .before .before .before .before .before .before .args .a in
     let b = c .before .before .before .before .before .before .before .args .b in
-    amp-and (eqb (a .width) (b .width)) (eqb (a .mode) 2 && c .writes .result)
-    ∙ ap (λ (z : Bool). eqb (a .width) (b .width) and z) (amp-and (eqb (a .mode) 2) (c .writes .result))
-    ∙ ap (λ (z : Bool). eqb (a .width) (b .width) and (sc a and z)) (c .writes .ensures)
+    amp-and (eqb (a .width) (b .width)) (c .before .sc .result && c .writes .result)
+    ∙ ap (λ (z : Bool). eqb (a .width) (b .width) and z) (amp-and (c .before .sc .result) (c .writes .result))
+    ∙ (λ z. eqb (a .width) (b .width) and (c .before .sc .ensures z and c .writes .ensures z))
     ∙ hits-start a b (c .before .before .before .before .if1 .left)
 
 pub hits-spec : {M : Type 1} → statement M
-hits-spec = tie.close (tie.spec returns writes-requires returns-2)
+hits-spec = tie.close (tie.spec returns sc-requires writes-requires returns-2)

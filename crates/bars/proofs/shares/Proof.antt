@@ -1,10 +1,10 @@
 -- `bars::shares` meets its contract, access by access. Assumes nothing.
 use mathlib.Core.Path.{_≡_, sym, ap, _∙_}
-use Prim.Native.Nat.{_+_, _-_, _*_, _%_}
+use Prim.Native.Nat.{_+_, _*_, _%_}
 use native.Mathlib.Nat.{mod-eq-of-lt}
 use native.Mathlib.Omega.{arith}
 use denote.Ref.{now}
-use Rattle.basis.proofs.LoopLaws.{or-holds, or-fails}
+use Rattle.basis.proofs.BoolLaws.{or-holds, or-fails}
 use Rattle.format.specs.declared.Shape.{Shape}
 use Rattle.sets.specs.Mask.{slots}
 use Rattle.tables.specs.Tables.{accesses, shapeIn}

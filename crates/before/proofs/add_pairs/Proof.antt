@@ -8,13 +8,13 @@ use denote.Ref.{now}
 use lib.ListN.{length}
 use Rattle.tables.specs.Tables.{pairRoom, pairIn}
 use Rattle.format.specs.declared.Pair.{Pair}
-use Rattle.before.specs.Before.{pairGains, pairsIn}
+use Rattle.before.specs.Before.{pairGains, pairStepsIn}
 use Rattle.before.proofs.BeforeLaws.{pairs-none, pairs-more, pairs-length}
 use Rattle.before.proofs.add_pairs.Statement.{statement}
 use Rattle.before.proofs.add_pairs.Tie as tie
 
 abbrev Inv-loop : tie.InvT-loop
-Inv-loop p n succ₀ m j₀ succ j = (j ≤ m) × (m ≤ pairRoom) × (succ ≡ pairsIn p j succ₀)
+Inv-loop p n succ₀ m j₀ succ j = (j ≤ m) × (m ≤ pairRoom) × (succ ≡ pairStepsIn p j succ₀)
 
 abbrev μ-loop : tie.MeasureT-loop
 μ-loop p n succ₀ m j₀ succ j = m - j
@@ -55,7 +55,7 @@ returns c = let l = c .before .loop in
     let a = c .before .before .before .before .args in
     let z = c .before .before .least .ensures in
     let e : l .j ≡ min (a .n) pairRoom = omega arith in
-    l .inv .2 ∙ ap (λ (x : ℕ). pairsIn (now (a .p)) x (now (a .succ))) e
+    l .inv .2 ∙ ap (λ (x : ℕ). pairStepsIn (now (a .p)) x (now (a .succ))) e
 
 pub add-pairs-spec : {M : Type 1} → statement M
 add-pairs-spec =

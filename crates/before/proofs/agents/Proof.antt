@@ -9,7 +9,7 @@ use lib.ListN.{length}
 use Rattle.sets.specs.Mask.{slots}
 use Rattle.cells.specs.Cells.{gaining}
 use Rattle.tables.specs.Tables.{agentIn}
-use Rattle.before.specs.Before.{agentsIn}
+use Rattle.before.specs.steps.Own.{agentsIn}
 use Rattle.before.proofs.BeforeLaws.{agents-none, agents-more, agents-length}
 use borrow.Author.Needs.{needs}
 use Rattle.before.proofs.agents.Statement.{statement}

@@ -9,7 +9,7 @@ use lib.ListN.{getD}
 use Rattle.sets.specs.Mask.{slots, full}
 use Rattle.tables.specs.Tables.{agentRoom, agentIn}
 use Rattle.tables.proofs.TablesLaws.{agent-place}
-use Rattle.before.specs.Before.{behindIn}
+use Rattle.before.specs.steps.Own.{behindIn}
 use borrow.Author.Needs.{needs}
 use Rattle.before.proofs.behind.Statement.{statement}
 use Rattle.before.proofs.behind.Tie as tie

@@ -1,15 +1,14 @@
 -- `before::fill` meets its contract, call by call. Assumes nothing.
 use mathlib.Core.Path.{_≡_, ap, _∙_, subst}
 use mathlib.Core.List.{List}
-use Prim.Native.Nat.{ℕ, _-_, min}
+use Prim.Native.Nat.{ℕ, min}
 use native.Mathlib.Omega.{arith}
 use borrow.Author.Needs.{needs}
 use denote.Ref.{now}
-use lib.ListN.{length}
 use Rattle.sets.specs.Mask.{slots}
 use Rattle.closing.specs.Closure.{taken, Closed}
 use Rattle.tables.specs.Tables.{rowRoom, pairRoom}
-use Rattle.before.specs.Before.{stepsIn, Ordered}
+use Rattle.before.specs.Before.{stepsIn, ClosedSteps}
 use Rattle.before.proofs.fill.Statement.{statement}
 use Rattle.before.proofs.fill.Tie as tie
 
@@ -42,7 +41,7 @@ returns c = let a = c .before .before .before .before .before .before .before .b
     let few : min n slots ≡ n = let z = c .before .before .before .before .before .before .before .before .before .before .before .before .before .least .ensures in omega arith in
     let out = c .before .before .before .before .before .before .before .close .last .0 in
     let s : c .before .before .before .before .before .before .before .before .before .before .before .steps .last .1 .1 .1 .1 .1 .1 .0 ≡ stepsIn t n q r p k (now (a .succ)) = c .before .before .before .before .before .before .before .before .before .before .before .steps .ensures ∙ ap (λ (x : ℕ). stepsIn t x q r p k (now (a .succ))) few in
-    subst (λ (x : ℕ). Ordered t x q r p k (now (a .succ)) out (now (a .pred)) (c .before .before .turn .last .1 .1 .0)) (c .before .before .before .before .before .before .before .before .before .before .before .before .before .least .ensures)
+    subst (λ (x : ℕ). ClosedSteps t x q r p k (now (a .succ)) out (now (a .pred)) (c .before .before .turn .last .1 .1 .0)) (c .before .before .before .before .before .before .before .before .before .before .before .before .before .least .ensures)
     (record {
       closed = subst (λ (l : List ℕ). Closed (taken n l) l out) s (c .before .before .before .before .before .before .before .close .ensures);
       turned = c .before .before .turn .ensures;

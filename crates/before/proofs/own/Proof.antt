@@ -1,14 +1,14 @@
 -- `before::own` meets its contract, by the agent. Assumes nothing.
 use mathlib.Core.Path.{sym, ap, _∙_}
 use mathlib.Core.Bool.{Bool, cond}
-use Prim.Native.Nat.{_-_, _%_, min}
+use Prim.Native.Nat.{_%_, min}
 use borrow.Author.Tests.{eq-eqb, ne-eqb}
 use denote.Ref.{now}
-use lib.Dec.{eqb}
 use Rattle.sets.specs.Mask.{slots}
 use Rattle.cells.specs.Walk.{picked}
 use Rattle.tables.specs.Tables.{agentIn}
-use Rattle.before.specs.Before.{metIn, behindIn, ownBy}
+use Rattle.before.specs.Before.{metIn}
+use Rattle.before.specs.steps.Own.{behindIn, ownBy}
 use borrow.Author.Needs.{needs}
 use Rattle.before.proofs.own.Statement.{statement}
 use Rattle.before.proofs.own.Tie as tie

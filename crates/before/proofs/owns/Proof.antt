@@ -9,7 +9,8 @@ use lib.ListN.{length, set}
 use Rattle.sets.specs.Mask.{slots}
 use Rattle.cells.specs.Cells.{placing}
 use Rattle.cells.proofs.CellsLaws.{placing-none, placing-more, placing-length}
-use Rattle.before.specs.Before.{ownIn, ownBy}
+use Rattle.before.specs.Before.{ownIn}
+use Rattle.before.specs.steps.Own.{ownBy}
 use Rattle.before.proofs.BeforeLaws.{own-is}
 use borrow.Author.Needs.{needs}
 use Rattle.before.proofs.owns.Statement.{statement}

@@ -1,11 +1,10 @@
 -- `before::steps` meets its contract, call by call. Assumes nothing.
 use mathlib.Core.Path.{ap, _∙_}
-use Prim.Native.Nat.{_-_, min}
+use Prim.Native.Nat.{min}
 use borrow.Author.Needs.{needs}
 use denote.Ref.{now}
-use lib.ListN.{length}
 use Rattle.tables.specs.Tables.{rowRoom, pairRoom}
-use Rattle.before.specs.Before.{rowsIn, pairsIn, stepsIn}
+use Rattle.before.specs.Before.{rowStepsIn, pairStepsIn, stepsIn}
 use Rattle.before.proofs.steps.Statement.{statement}
 use Rattle.before.proofs.steps.Tie as tie
 
@@ -24,7 +23,7 @@ same-length c = search needs
 returns : tie.Need-returns
 unfolding stepsIn
 returns c = let a = c .before .before .before .before .before .before .before .before .before .before .before .before .before .args in
-    c .before .before .add-pairs .ensures ∙ ap (pairsIn (now (a .p)) (min (a .pairs) pairRoom)) (c .before .before .before .before .before .before .add-rows .ensures ∙ ap (rowsIn (now (a .t)) (now (a .q)) (min (a .rows) rowRoom)) (c .before .before .before .before .before .before .before .before .before .before .owns .ensures))
+    c .before .before .add-pairs .ensures ∙ ap (pairStepsIn (now (a .p)) (min (a .pairs) pairRoom)) (c .before .before .before .before .before .before .add-rows .ensures ∙ ap (rowStepsIn (now (a .t)) (now (a .q)) (min (a .rows) rowRoom)) (c .before .before .before .before .before .before .before .before .before .before .owns .ensures))
 
 pub steps-spec : {M : Type 1} → statement M
 steps-spec =

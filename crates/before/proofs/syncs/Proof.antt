@@ -1,9 +1,9 @@
--- `before::syncs` meets its contract, by the mode of the writer. Assumes nothing.
+-- `before::syncs` meets its contract, by the writer's mode. Assumes nothing.
 use mathlib.Core.Path.{sym, ap, _∙_}
-use Prim.Native.Nat.{_-_, _%_}
-use borrow.Author.Tests.{ne-eqb}
+use Prim.Native.Nat.{_%_}
+use borrow.Author.Tests.{not-true}
 use denote.Ref.{now}
-use Rattle.basis.proofs.LoopLaws.{and-fails}
+use Rattle.basis.proofs.BoolLaws.{and-fails}
 use Rattle.format.specs.Shape.{sc, bothSc}
 use Rattle.sets.specs.Mask.{slots}
 use Rattle.tables.specs.Tables.{atIn}
@@ -18,11 +18,14 @@ cast-at c = search needs
 at-requires : tie.Need-at-requires
 at-requires c κs = search needs
 
+sc-requires : tie.Need-sc-requires
+sc-requires c κs = search needs
+
 returns : tie.Need-returns
-unfolding syncIn bothSc sc
+unfolding syncIn bothSc
 returns c =
     let w = atIn (now (c .before .before .before .before .args .t)) (c .before .before .before .before .args .r .writer % slots) (c .before .before .before .before .args .r .address) in
-    sym (and-fails (sc w) _ (ap sc (sym (c .before .before .at .ensures)) ∙ ne-eqb (c .before .before .at .result .mode) 2 (c .if1 .taken)))
+    sym (and-fails (sc w) _ (ap sc (sym (c .before .before .at .ensures)) ∙ sym (c .before .sc .ensures) ∙ not-true (c .before .sc .result) (c .if1 .taken)))
 
 cast-at-2 : tie.Need-cast-at-2
 cast-at-2 c = search needs
@@ -40,4 +43,4 @@ returns-2 c = c .both-sc .ensures ∙ (λ z. bothSc (c .before .before .before .
 pub syncs-spec : {M : Type 1} → statement M
 syncs-spec =
     tie.close
-    (tie.spec cast-at at-requires returns cast-at-2 at-requires-2 both-sc-requires returns-2)
+    (tie.spec cast-at at-requires sc-requires returns cast-at-2 at-requires-2 both-sc-requires returns-2)

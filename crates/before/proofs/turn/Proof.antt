@@ -8,7 +8,7 @@ use lib.ListN.{length, getD}
 use Rattle.closing.specs.Closure.{taken}
 use Rattle.cells.specs.Walk.{upTo}
 use Rattle.cells.specs.Cells.{scatter}
-use Rattle.before.specs.Before.{turnAt, turnedIn}
+use Rattle.before.specs.Before.{turnAt, columnsIn}
 use Rattle.before.proofs.BeforeLaws.{turn-none, turn-more, turn-length}
 use borrow.Author.Needs.{needs}
 use Rattle.before.proofs.turn.Statement.{statement}
@@ -63,7 +63,7 @@ same-length : tie.Need-same-length Inv-loop μ-loop
 same-length c = ap length (c .before .loop .inv .2) ∙ turn-length (now (c .before .before .before .before .before .before .args .succ)) (now (c .before .before .before .before .before .before .args .pred)) (c .before .loop .e)
 
 returns : tie.Need-returns Inv-loop μ-loop
-unfolding turnedIn
+unfolding columnsIn
 returns c =
     let l = c .before .loop in
     let y = c .before .before .before .least .ensures in

@@ -1,9 +1,7 @@
 -- `cells::place` meets its contract: beyond the end nothing is written. Assumes nothing.
 use mathlib.Core.Path.{sym}
-use Prim.Native.Nat.{_-_}
 use borrow.Author.Needs.{needs}
 use denote.Ref.{now}
-use lib.ListN.{length, set}
 use lib.Seq.{set-out}
 use Rattle.cells.proofs.place.Statement.{statement}
 use Rattle.cells.proofs.place.Tie as tie

@@ -7,7 +7,7 @@ use native.Mathlib.Omega.{arith}
 use denote.Ref.{now}
 use lib.ListN.{length}
 use Rattle.sets.specs.Mask.{slots, remove}
-use Rattle.cells.specs.Cells.{gaining, gainOne, scatter}
+use Rattle.cells.specs.Cells.{gainOne, scatter}
 use Rattle.cells.proofs.WalkLaws.{Stand, stand-start, stand-lowest, stand-less, stand-next, stand-end}
 use Rattle.cells.proofs.CellsLaws.{gaining-length}
 use borrow.Author.Needs.{needs}

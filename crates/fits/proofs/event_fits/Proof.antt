@@ -4,8 +4,7 @@ use mathlib.Core.Bool.{Bool, true, false}
 use denote.Ref.{now}
 use borrow.Author.Tests.{not-true, not-false}
 use Rattle.basis.specs.Test.{_or_, non}
-use Rattle.basis.proofs.LoopLaws.{and-holds, and-fails, or-holds, or-fails, non-holds}
-use Rattle.basis.proofs.BoolLaws.{non-fails}
+use Rattle.basis.proofs.BoolLaws.{and-holds, and-fails, or-holds, or-fails, non-holds, non-fails}
 use Rattle.format.specs.Shape.{initial}
 use Rattle.content.specs.Content.{eventFits, alone}
 use Rattle.entries.specs.Entries.{eventsIn}

@@ -1,7 +1,7 @@
 -- `lacking::lacks` meets its contract: only an access that reads can lack a row. Assumes nothing.
 use mathlib.Core.Path.{sym, ap, _∙_}
 use borrow.Author.Tests.{not-true, not-false}
-use Rattle.basis.proofs.LoopLaws.{and-holds, and-fails}
+use Rattle.basis.proofs.BoolLaws.{and-holds, and-fails}
 use Rattle.format.specs.Shape.{reads}
 use borrow.Author.Needs.{needs}
 use Rattle.lacking.proofs.lacks.Statement.{statement}

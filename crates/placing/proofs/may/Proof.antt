@@ -5,8 +5,8 @@ use native.Mathlib.Omega.{arith}
 use borrow.Author.Needs.{needs}
 use borrow.Author.Tests.{not-true, not-false}
 use denote.Ref.{now}
+use Rattle.basis.proofs.BoolLaws.{not-both-ways}
 use Rattle.sets.specs.Mask.{slots, mem}
-use Rattle.sets.proofs.BoolLaws.{not-both-ways}
 use Rattle.sets.proofs.TellsLaws.{tells-no, tells-map}
 use Rattle.sets.proofs.MaskLaws.{at-slot}
 use Rattle.placing.proofs.may.Statement.{statement}

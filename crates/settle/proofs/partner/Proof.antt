@@ -10,7 +10,7 @@ use Rattle.sets.specs.Mask.{slots, remove}
 use Rattle.sets.proofs.MaskLaws.{remove-lt}
 use Rattle.cells.specs.Walk.{picked}
 use Rattle.cells.proofs.FirstLaws.{Left, left-lowest, left-next}
-use Rattle.settle.specs.Settle.{aheadIn, freeIn}
+use Rattle.settle.specs.steps.Ahead.{aheadIn, freeIn}
 use Rattle.settle.proofs.SettleLaws.{ahead-is, partner-start, partner-hit, partner-end}
 use borrow.Author.Needs.{needs}
 use Rattle.settle.proofs.partner.Statement.{statement}

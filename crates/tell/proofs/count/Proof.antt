@@ -6,8 +6,8 @@ use Prim.Native.Nat.{_-_, _≤_}
 use denote.Ref.{now}
 use native.Mathlib.Omega.{arith}
 use lib.ListN.{length, take, drop}
-use Rattle.tell.specs.Told.{placed}
-use Rattle.tell.proofs.ToldLaws.{placed-stop, placed-more, placed-end}
+use Rattle.tell.specs.JudgedLine.{placed}
+use Rattle.tell.proofs.JudgedLineLaws.{placed-stop, placed-more, placed-end}
 use borrow.Author.Needs.{needs}
 use Rattle.tell.proofs.count.Statement.{statement}
 use Rattle.tell.proofs.count.Tie as tie

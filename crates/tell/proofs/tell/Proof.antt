@@ -1,6 +1,5 @@
 -- `tell::tell` meets its contract: the judge's answer, and the line of it with the events that are placed. Assumes nothing.
-use mathlib.Core.Path.{_≡_, sym, ap, _∙_}
-use denote.Ref.{now}
+use mathlib.Core.Path.{sym}
 use lib.Seq.{length-take-le}
 use borrow.Author.Needs.{needs}
 use Rattle.tell.proofs.tell.Statement.{statement}

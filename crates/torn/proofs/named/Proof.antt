@@ -1,11 +1,11 @@
 -- `torn::named` meets its contract, by the test. Assumes nothing.
-use Prim.Native.Nat.{_-_, _%_, min}
+use Prim.Native.Nat.{_%_, min}
 use native.Mathlib.Omega.{arith}
 use borrow.Author.Needs.{needs}
 use denote.Ref.{now}
 use Rattle.sets.specs.Mask.{slots}
 use Rattle.cells.proofs.FirstLaws.{first-of}
-use Rattle.torn.specs.Torn.{pairIn, pairs}
+use Rattle.torn.specs.Torn.{twoSourcesIn, pairs}
 use Rattle.torn.proofs.TornLaws.{named-here, none-here}
 use borrow.Author.Needs.{needs}
 use Rattle.torn.proofs.named.Statement.{statement}
@@ -25,7 +25,7 @@ cast-t7 c = search needs
 
 cast-t9 : tie.Need-cast-t9
 cast-t9 c =
-    let k = first-of (pairIn (now (c .before .before .before .before .args .s)) (c .before .before .before .torn .result % slots)) pairs .within in
+    let k = first-of (twoSourcesIn (now (c .before .before .before .before .args .s)) (c .before .before .before .torn .result % slots)) pairs .within in
     let e = c .pair .ensures in
     omega arith
 

@@ -1,10 +1,8 @@
 -- `torn::note_row` meets its contract, by the test. Assumes nothing.
 use mathlib.Core.Path.{sym, ap, _∙_}
-use mathlib.Core.Bool.{true, false}
-use Prim.Native.Nat.{ℕ, _-_, _%_}
+use Prim.Native.Nat.{ℕ, _%_}
 use borrow.Author.Needs.{needs}
 use denote.Ref.{now}
-use lib.ListN.{length}
 use Rattle.sets.specs.Mask.{slots}
 use borrow.Author.Tests.{not-true, not-false}
 use Rattle.cells.specs.Cells.{gaining}

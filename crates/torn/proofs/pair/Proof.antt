@@ -1,12 +1,12 @@
 -- `torn::pair` meets its contract: the first of two tests together. Assumes nothing.
 use mathlib.Core.Path.{ap, _∙_}
-use Prim.Native.Nat.{ℕ, _+_, _-_, _*_, _%_, min}
+use Prim.Native.Nat.{ℕ, _+_, _*_, _%_, min}
 use borrow.Author.Needs.{needs}
 use denote.Ref.{now}
 use lib.ListN.{getD}
 use Rattle.sets.specs.Mask.{slots}
 use Rattle.cells.proofs.FirstLaws.{first-or}
-use Rattle.torn.specs.Torn.{twoIn, pairIn, pairs}
+use Rattle.torn.specs.Torn.{twoIn, twoSourcesIn, pairs}
 use borrow.Author.Needs.{needs}
 use Rattle.torn.proofs.pair.Statement.{statement}
 use Rattle.torn.proofs.pair.Tie as tie
@@ -39,7 +39,7 @@ least-requires : tie.Need-least-requires
 least-requires c κs = search needs
 
 returns : tie.Need-returns
-unfolding pairIn
+unfolding twoSourcesIn
 returns c =
     let s = now (c .before .before .before .before .before .args .s) in
     let e = c .before .before .before .before .before .args .e % slots in

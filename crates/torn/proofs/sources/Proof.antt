@@ -9,7 +9,7 @@ use Rattle.tables.specs.Tables.{rowRoom}
 use Rattle.format.specs.declared.Row.{Row}
 use Rattle.tables.specs.Tables.{rowIn}
 use Rattle.tables.proofs.TablesLaws.{row-at}
-use Rattle.torn.specs.Torn.{rowGains, sourcesIn}
+use Rattle.torn.specs.Torn.{sourceGains, sourcesIn}
 use Rattle.torn.proofs.TornLaws.{sources-none, sources-more, sources-length}
 use Rattle.torn.proofs.sources.Statement.{statement}
 use Rattle.torn.proofs.sources.Tie as tie
@@ -46,8 +46,8 @@ loop-again c =
     let q = now (a .q) in (
       omega arith,
       l .inv .1,
-      c .before .before .note-row .ensures ∙ ap (λ (x : Row). rowGains t x (l .masks)) (row-at q (l .j) (omega arith) (c .before .before .before .before .row .result) (c .before .before .before .before .row .ensures))
-          ∙ ap (rowGains t (rowIn q (l .j))) (l .inv .2) ∙ sources-more t q (now (a .masks)) (l .j),
+      c .before .before .note-row .ensures ∙ ap (λ (x : Row). sourceGains t x (l .masks)) (row-at q (l .j) (omega arith) (c .before .before .before .before .row .result) (c .before .before .before .before .row .ensures))
+          ∙ ap (sourceGains t (rowIn q (l .j))) (l .inv .2) ∙ sources-more t q (now (a .masks)) (l .j),
     )
 
 same-length : tie.Need-same-length Inv-loop μ-loop

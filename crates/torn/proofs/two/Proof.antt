@@ -1,6 +1,6 @@
 -- `torn::two` meets its contract: the second is the lowest of what is left without the first. Assumes nothing.
 use mathlib.Core.Path.{subst}
-use Prim.Native.Nat.{ℕ, _-_, _%_}
+use Prim.Native.Nat.{ℕ, _%_}
 use native.Mathlib.Omega.{arith}
 use borrow.Author.Needs.{needs}
 use Rattle.sets.specs.Mask.{slots, Lowest}

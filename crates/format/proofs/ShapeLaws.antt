@@ -1,4 +1,4 @@
--- Laws of ranges and of sc accesses (format/specs/Shape.antt). Assumes nothing.
+-- The laws of specs/Shape.antt: ranges, and accesses that are both sc. Assumes nothing.
 --     overlap-sym, equal-sym, equal-trans, equal-self     of ranges               covers-equal     equal ranges cover the same bytes
 --     both-cover                                          two ranges with a byte in common overlap
 --     BothSc, both-elim, both-intro, both-sym             both sc with equal ranges
@@ -6,9 +6,9 @@ use mathlib.Core.Path.{subst}
 use Prim.Native.Nat.{ℕ, _+_, _≤_, _<_}
 use native.Mathlib.Omega.{arith}
 use lib.Dec.{T, eqb, ltb, leb, leb→le, ltb→lt, lt→ltb, eqb→eq, eqb-refl}
-use Rattle.basis.proofs.TestLaws.{and-elim, and-intro}
+use Rattle.basis.proofs.BoolLaws.{and-elim, and-intro}
 use Rattle.format.specs.declared.Shape.{Shape}
-use Rattle.format.specs.Shape.{sc, covers, overlap, equal, bothSc, noShape}
+use Rattle.format.specs.Shape.{sc, covers, overlap, equal, bothSc}
 
 module _ (a b : Shape) where
   pub overlap-sym : T (overlap a b) → T (overlap b a)
@@ -54,10 +54,6 @@ equal-trans a b c s t =
 pub equal-self : (a : Shape) → T (equal a a)
 unfolding equal
 equal-self a = and-intro _ _ (eqb-refl (a .start)) (eqb-refl (a .width))
-
-pub nothing-covers : (n : ℕ) → T (covers noShape n) → ⊥
-unfolding covers
-nothing-covers n t = let h : n < 0 + 0 = ltb→lt _ _ (and-elim _ _ t .1) in omega arith
 
 pub record BothSc (a b : Shape) : Type 0 where
   pub left : T (sc a)

@@ -1,7 +1,7 @@
--- A sheet judged and told as a line (01, "What comes back": "writes one line"). Laws: proofs/ToldLaws.antt.
+-- A sheet judged and told as a line (01, "What comes back": "writes one line"). Laws: proofs/JudgedLineLaws.antt.
 --     unused           the byte that a place of the order buffer holds before the call: no event has that number
 --     placed order     the events of an order buffer that was lent full of it
---     Told             the line of an answer that the judge's contract allows, and all buffers as they are then
+--     JudgedLine       the line of an answer that the judge's contract allows, and all buffers as they are then
 -- Assumes nothing.
 use mathlib.Core.Bool.{cond}
 use mathlib.Core.List.{List, [], _∷_}
@@ -19,7 +19,7 @@ unfoldable pub placed : List ℕ → List ℕ
 placed [] = []
 placed (e ∷ l) = cond (eqb e unused) [] (e ∷ placed l)
 
-pub record Told (sheet scratch order out : List ℕ) (r : ℕ) (scratch′ order′ out′ : List ℕ) : Type 0 where
+pub record JudgedLine (sheet scratch order out : List ℕ) (r : ℕ) (scratch′ order′ out′ : List ℕ) : Type 0 where
   pub answer : Answer
   pub judged : Judged sheet scratch order answer scratch′ order′
   pub lined : Lined answer (placed order′) out r out′

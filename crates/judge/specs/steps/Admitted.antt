@@ -1,4 +1,4 @@
--- What the judge's own steps start from: contracts of private functions, no part of what it promises. Laws: proofs/JudgeLaws.antt,
+-- What the judge's own steps start from. Laws: proofs/JudgeLaws.antt,
 -- proofs/ArrangeLaws.antt.
 --     Admits s x at need scratch order     the sheet is refused by none of 1 to 13, and needs so much scratch
 --     Unbroken s first events rows t q succ pred scratch order     tables hold what it describes, and none of 21 to 25 is broken

@@ -1,16 +1,15 @@
--- The laws of specs/Told.antt: the events before the first that is unused, one by one. Assumes nothing.
+-- The laws of specs/JudgedLine.antt: the events before the first that is unused, one by one. Assumes nothing.
 --     placed-start, placed-stop, placed-more, placed-end     a loop that has come to n
-use mathlib.Core.Path.{_≡_, refl, sym, ap, _∙_}
-use mathlib.Core.Bool.{Bool, true, false, cond}
+use mathlib.Core.Path.{_≡_, sym, ap, _∙_}
+use mathlib.Core.Bool.{cond}
 use mathlib.Core.List.{List, [], _∷_, _++_, append-assoc, append-nil}
 use Prim.Native.Nat.{ℕ, suc, _+_, _<_, _≤_}
-use native.Mathlib.Omega.{arith}
 use native.Mathlib.Numerals.{add-one}
 use borrow.Author.Tests.{eq-eqb, ne-eqb}
 use lib.Dec.{eqb}
 use lib.ListN.{length, getD, take, drop, drop-of-length-le}
 use lib.Seq.{take-suc, drop-cons}
-use Rattle.tell.specs.Told.{unused, placed}
+use Rattle.tell.specs.JudgedLine.{unused, placed}
 
 module _ (l : List ℕ) (n : ℕ) (e : placed l ≡ take n l ++ placed (drop n l)) where
   step : n < length l → placed l ≡ take n l ++ cond (eqb (getD l n 0) unused) [] (getD l n 0 ∷ placed (drop (suc n) l))

@@ -1,6 +1,6 @@
 -- What the export returns (01, "What comes back": "For the suite's Rust harness the judge is exported under the C calling convention, on byte
 -- slices, with a 64-bit answer").
---     Exported     the word of an answer that the judge's contract allows, and the buffers as it leaves them
+--     JudgedWord     the word of an answer that the judge's contract allows, and the buffers as it leaves them
 -- Assumes nothing.
 use mathlib.Core.Path.{_≡_}
 use mathlib.Core.List.{List}
@@ -9,7 +9,7 @@ use Rattle.answer.specs.declared.Answer.{Answer}
 use Rattle.answer.specs.Word.{packed}
 use Rattle.model.specs.Judged.{Judged}
 
-pub record Exported (sheet scratch order : List ℕ) (r : ℕ) (scratch′ order′ : List ℕ) : Type 0 where
+pub record JudgedWord (sheet scratch order : List ℕ) (r : ℕ) (scratch′ order′ : List ℕ) : Type 0 where
   pub answer : Answer
   pub judged : Judged sheet scratch order answer scratch′ order′
   pub word : r ≡ packed answer

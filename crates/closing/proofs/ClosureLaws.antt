@@ -7,23 +7,19 @@ use mathlib.Core.Path.{_≡_, refl, sym, ap, ap₂, _∙_, subst}
 use mathlib.Core.Bool.{Bool, true, false, _&&_, _||_, or-false}
 use mathlib.Core.Logic.{_⊎_, inl, inr, ⊎-elim}
 use mathlib.Core.List.{List}
-use Prim.Native.Nat.{ℕ, zero, suc, _+_, _-_, _^_, _≤_, _<_}
+use Prim.Native.Nat.{ℕ, _+_, _-_, _<_}
 use native.Mathlib.Decide.{ℕ-discrete, decLt}
 use native.Mathlib.Omega.{arith}
-use native.Mathlib.Nat.{not-suc-le-zero, le-refl, lt-of-lt-of-le, le-add-right}
-use lib.Pow.{pow-pos, pow-mono}
-use lib.Dec.{eqb}
-use borrow.Author.Count.{below-more}
-use borrow.Author.Tests.{ne-eqb}
+use native.Mathlib.Nat.{not-suc-le-zero}
 use lib.ListN.{length, getD, drop}
 use lib.Seq.{getD-drop, ext-getD}
 use lib.Bits.{bitOr}
-use Rattle.basis.proofs.BoolLaws.{bool-ext, by-bool, eqb-self, bar-cases, bar-left, bar-right, and-parts}
-use Rattle.sets.specs.Mask.{mem, Has, pick, insert}
+use Rattle.basis.proofs.BoolLaws.{bool-ext, by-bool, bar-cases, bar-left, bar-right, and-parts}
+use Rattle.sets.specs.Mask.{mem, Has, pick}
 use Rattle.closing.specs.Closure.{Reach, Square, Closed}
 use Rattle.closing.specs.Closure.Reach.{step, more}
 use Rattle.closing.specs.Sweep.{absorb, Swept}
-use Rattle.sets.proofs.MaskLaws.{ext, ext-all, mem-beyond, mem-insert, insert-lt, mem-or, mem-lt, lt-of-members}
+use Rattle.sets.proofs.MaskLaws.{ext-all, mem-or, mem-lt, lt-of-members}
 
 -- ---- one row after a pivot
 

@@ -9,7 +9,7 @@ use mathlib.Core.List.{List}
 use mathlib.Core.Logic.{_↔_}
 use Prim.Native.Nat.{ℕ, _^_, _<_, min}
 use lib.ListN.{getD, length, drop}
-use Rattle.sets.specs.Mask.{slots, mem, Has}
+use Rattle.sets.specs.Mask.{slots, Has}
 
 abbrev pub taken : ℕ → List ℕ → ℕ
 taken n rows = min n (min slots (length rows))

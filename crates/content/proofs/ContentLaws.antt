@@ -7,11 +7,11 @@
 --     joined, parted                a row; a pair
 use mathlib.Core.Path.{_≡_, refl, sym, _∙_}
 use mathlib.Core.Logic.{_⊎_, inl, inr, ⊎-elim}
-use mathlib.Core.Bool.{Bool, true, false, cond, false≢true}
+use mathlib.Core.Bool.{Bool, true, false, false≢true}
 use mathlib.Core.List.{List}
 use Prim.Native.Nat.{ℕ, _<_, _≤_}
 use borrow.Author.Tests.{eqb-true, eqb-false, eq-eqb, leb-true, leb-false, ltb-true, le-leb}
-use lib.Dec.{T, eqb, ltb, leb}
+use lib.Dec.{T, eqb, leb}
 use Rattle.basis.specs.Test.{_and_, _or_, non}
 use Rattle.basis.proofs.BoolLaws.{true-T, T-true, and-both, or-either, or-holds, or-second, cond-cases, non-true, non-holds, both-hold}
 use Rattle.format.specs.declared.Head.{Head}

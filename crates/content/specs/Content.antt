@@ -7,7 +7,7 @@
 --     joins, rowRises, rowFits      a row by itself, after the rows before it, both
 --     parts, pairRises, pairFits    the same of a pair
 -- Assumes nothing.
-use mathlib.Core.Bool.{Bool, true, false, cond}
+use mathlib.Core.Bool.{Bool, false, cond}
 use mathlib.Core.List.{List}
 use Prim.Native.Nat.{ℕ, _+_, _-_}
 use lib.Dec.{eqb, ltb, leb}
@@ -17,7 +17,7 @@ use Rattle.format.specs.declared.Head.{Head}
 use Rattle.format.specs.declared.Shape.{Shape}
 use Rattle.format.specs.declared.Row.{Row}
 use Rattle.format.specs.declared.Pair.{Pair}
-use Rattle.format.specs.Limits.{maxAgents, maxMemory, maxInits, maxOthers, maxPairs}
+use Rattle.format.specs.Limits.{maxAgents, maxMemory, maxInits, maxOthers}
 use Rattle.format.specs.Shape.{initial, sc, divides}
 use Rattle.format.specs.Event.{Event, isInit, meets, readsAt, writesAt, isMarker}
 use Rattle.format.specs.Execution.{eventNo, inits, others, rowBelow, pairBelow, noRow, noPair}

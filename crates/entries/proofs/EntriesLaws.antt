@@ -16,8 +16,6 @@ use lib.ListN.{length, getD, take}
 use lib.Seq.{take-all}
 use Rattle.basis.specs.Test.{_and_}
 use Rattle.basis.proofs.ListLaws.{front-at, front-past, front-length}
-use Rattle.format.specs.declared.Row.{Row}
-use Rattle.format.specs.declared.Pair.{Pair}
 use Rattle.format.specs.declared.Shape.{Shape}
 use Rattle.format.specs.Shape.{reads, writes, marks, covers, overlap}
 use Rattle.format.specs.Event.{Event, nobody, readsAt, writesAt, readsSome, isMarker, meets}

@@ -4,7 +4,7 @@
 --     readsSome-one, isMarker-one, meets-one;  readsAt-nobody, writesAt-nobody, isMarker-nobody
 use mathlib.Core.Path.{_≡_, refl, sym, ap, _∙_}
 use mathlib.Core.Bool.{Bool, true, false}
-use mathlib.Core.List.{List, [], _∷_}
+use mathlib.Core.List.{[], _∷_}
 use Prim.Native.Nat.{ℕ, _-_}
 use lib.Dec.{leb·zero, leb·suc-zero}
 use lib.ListN.{getD}

@@ -2,8 +2,7 @@
 --     saw-uncovered, saw-none, saw-some     of a byte that the event does not cover, does not read, reads
 --     agent-front, shape-front, event-front, row-front, pair-front     of a value of which nothing is cut off that is looked at
 --     wrote-uncovered, wrote-none, wrote-write, wrote-both     not covered; not written; by a write; by a read-modify-write
-use mathlib.Core.Path.{_≡_, refl, sym, ap, _∙_}
-use mathlib.Core.Logic.{_⊎_, inl, inr}
+use mathlib.Core.Path.{_≡_, refl, ap, _∙_}
 use mathlib.Core.Bool.{Bool, true, false, cond}
 use mathlib.Core.List.{List, [], _∷_}
 use Prim.Native.Nat.{ℕ, _+_, _-_, _<_, _≤_}
@@ -12,8 +11,7 @@ use borrow.Author.Tests.{ltb-true, leb-true, eqb-true, ne-eqb}
 use lib.Dec.{eqb, ltb, leb}
 use lib.ListN.{getD, take, drop}
 use lib.Seq.{getD-take, getD-drop}
-use Rattle.basis.specs.Test.{_and_}
-use Rattle.basis.proofs.BoolLaws.{and-elim, true-T, T-true, or-either}
+use Rattle.basis.proofs.BoolLaws.{and-elim, true-T, T-true}
 use Rattle.basis.proofs.ListLaws.{part-front}
 use Rattle.format.specs.declared.Shape.{Shape}
 use Rattle.format.specs.Shape.{reads, covers}

@@ -5,7 +5,7 @@
 --     readsAt e n, writesAt e n     e reads, writes byte n         saw e n, wrote e n      the byte seen, written at n
 --     readsSome, isMarker           some access reads; a marker    meets a e               a's range overlaps one of e's
 -- Assumes nothing.
-use mathlib.Core.Bool.{Bool, true, false, cond}
+use mathlib.Core.Bool.{Bool, cond}
 use mathlib.Core.List.{List, [], _∷_}
 use Prim.Native.Nat.{ℕ, _-_}
 use lib.Dec.{eqb}

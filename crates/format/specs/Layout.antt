@@ -5,7 +5,7 @@
 --     rowGap, pairGap                                the bytes from one row's, one pair's tag to the next
 --     editionOf, headOf, agentOf, shapeOf, accessOf, eventOf, rowOf, pairOf     a value as what it describes
 -- Assumes nothing.
-use mathlib.Core.Bool.{Bool, cond}
+use mathlib.Core.Bool.{cond}
 use mathlib.Core.List.{List, [], _∷_}
 use Prim.Native.Nat.{ℕ, _+_}
 use lib.Dec.{eqb}

@@ -1,12 +1,12 @@
 -- The shape of an access: all of it but its bytes (01, "The sheet" and "Relations"). `Shape` is the source's own struct: kind, mode, start,
 -- width, tear (0 may tear, 1 tear-free). A byte of the memory, and so a start, is a flat byte: region * 64 + address, below 256; today there is one
--- region, and it is the address. A range lies within its region. Laws: crates/model/proofs/ShapeLaws.antt.
+-- region, and it is the address. A range lies within its region. Laws: proofs/ShapeLaws.antt.
 --     reads writes marks            by its kind                    initial unordered sc    by its mode
 --     tearFree                      by its tear                    covers a n              its range holds byte n
 --     overlap a b, equal a b        of two ranges                  bothSc a b              both sc with equal ranges
 --     divides w s, tearOf           01's rule for tear-free        noShape                 what does nothing
 -- Assumes nothing.
-use mathlib.Core.Bool.{Bool, true, false, cond}
+use mathlib.Core.Bool.{Bool, cond}
 use Prim.Native.Nat.{ℕ, _+_, _%_}
 use lib.Dec.{eqb, ltb, leb}
 use Rattle.basis.specs.Test.{_and_, _or_, non}

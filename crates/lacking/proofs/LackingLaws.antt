@@ -3,7 +3,7 @@
 --     lacks-at                      event i's one access
 --     lacking-found, lacking-more, lacking-none     the search over the events, which has come to i
 use Prim.Native.Nat.{ℕ, _+_, _≤_, _<_, min}
-use mathlib.Core.Path.{_≡_, refl, sym, ap, _∙_}
+use mathlib.Core.Path.{_≡_, sym, ap, _∙_}
 use mathlib.Core.List.{List}
 use mathlib.Core.Bool.{Bool, true, false}
 use mathlib.Core.Option.{none, some}
@@ -22,7 +22,7 @@ use Rattle.format.specs.Field.{restAt}
 use Rattle.format.specs.Layout.{shapeOf}
 use Rattle.parse.specs.Parse.{isRow, lacks, lowestLacking}
 use Rattle.entries.specs.declared.Counts.{Counts}
-use Rattle.entries.specs.Entries.{eventsOn, eventsIn, rowsIn, execution}
+use Rattle.entries.specs.Entries.{eventsIn, rowsIn, execution}
 use Rattle.entries.proofs.EntriesLaws.{events-count, events-capped, event-at}
 
 -- event number e has a read byte without a row

@@ -3,14 +3,14 @@
 --     possible-meets possible-none         the same for `possible`
 --     answered-unique told-unique    two conforming answers are equal, buffers too
 --     answered-unfit answered-fit ..       how the code's answers are made
-use Prim.Native.Nat.{ℕ, _+_, _-_, _<_, _≤_, min}
+use Prim.Native.Nat.{ℕ, _+_, _-_, _≤_, min}
 use mathlib.Core.Path.{_≡_, refl, sym, ap, subst, _∙_}
 use mathlib.Core.Bool.{Bool, true, false, false≢true}
-use mathlib.Core.List.{List, [], _∷_, _++_}
+use mathlib.Core.List.{List, _++_}
 use native.Mathlib.Omega.{arith}
 use native.Mathlib.Decide.{decLe}
 use lib.ListN.{length, take, drop}
-use lib.Seq.{take-at, drop-at, length-take-le}
+use lib.Seq.{take-at, drop-at}
 use Rattle.basis.specs.Test.{from}
 use Rattle.sets.specs.Mask.{slots}
 use Rattle.marks.specs.Table.{bytesFor, cleared}
@@ -18,7 +18,7 @@ use Rattle.marks.proofs.TableLaws.{cleared-again, length-cleared, marked-cleare
 use Rattle.orders.specs.Problem.{Problem}
 use Rattle.orders.specs.Order.{Meets}
 use Rattle.orders.specs.First.{FirstOf}
-use Rattle.orders.specs.Step.{Below, Runs, Dead}
+use Rattle.orders.specs.Step.{Below, Runs}
 use Rattle.orders.specs.Inits.{Begins}
 use Rattle.orders.specs.Tables.{tabled}
 use Rattle.orders.specs.Answer.{Fits, Possible, Ordered, Told, Answered}

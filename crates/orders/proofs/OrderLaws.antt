@@ -3,7 +3,7 @@
 --     first-meets none-meets     so the first is the same, and where none can be placed none meets it
 --     meets-fewer                fewer bars and fewer constraints keep an order
 --     meets-same first-same      the same demands have the same orders, and the same first of them
-use Prim.Native.Nat.{ℕ, _+_, _<_, _≤_}
+use Prim.Native.Nat.{ℕ, _<_}
 use mathlib.Core.Path.{_≡_, refl, sym, subst}
 use mathlib.Core.Logic.{_⊎_, inl, inr, ⊎-elim, _↔_}
 use mathlib.Core.List.{List, [], _∷_}

@@ -6,9 +6,9 @@ use Prim.Native.Nat.{ℕ, _+_, _-_, _^_, _<_, _≤_}
 use mathlib.Core.Path.{_≡_, sym, ap, subst, _∙_}
 use mathlib.Core.Bool.{true}
 use mathlib.Core.Logic.{_⊎_, inl, inr, ⊎-elim}
-use mathlib.Core.List.{List, [], _∷_, _++_}
+use mathlib.Core.List.{List, []}
 use native.Mathlib.Omega.{arith}
-use lib.ListN.{length, getD, set, take}
+use lib.ListN.{getD, set, take}
 use Rattle.basis.proofs.BoolLaws.{not-both-ways, false-of}
 use Rattle.sets.specs.Mask.{mem, Has, insert, full, above}
 use Rattle.sets.specs.Count.{count}
@@ -24,7 +24,7 @@ use Rattle.orders.specs.Walk.{NextIs, Starting}
 use Rattle.orders.proofs.StepLaws.{Best, same-first, same-dead, dead-here}
 use Rattle.orders.proofs.TablesLaws.{with-insert, below-full}
 use Rattle.orders.proofs.TrailLaws.{placed, On, on-le, on-more, on-end, on-less, Full, trail-snoc, trail-init, Bests, trail-first}
-use Rattle.orders.proofs.StandLaws.{Stand, stand-lt, stand-full, stand-size, grown, grown-full, spot-table, next-path, last-path, last-at}
+use Rattle.orders.proofs.StandLaws.{Stand, stand-lt, stand-size, grown, grown-full, spot-table, next-path, last-path, last-at}
 
 pub record Seek (P : Problem) (k : ℕ) (p table : List ℕ) : Type 0 where
   pub bests : Bests P (full k) p

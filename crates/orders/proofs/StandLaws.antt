@@ -5,8 +5,7 @@
 --     left          how many sets are not marked: it falls with a step on
 use Prim.Native.Nat.{ℕ, suc, _+_, _-_, _/_, _%_, _^_, _<_, _≤_, min}
 use mathlib.Core.Path.{_≡_, refl, sym, ap, subst, _∙_}
-use mathlib.Core.Bool.{true, false}
-use mathlib.Core.Logic.{⊎-elim}
+use mathlib.Core.Bool.{true}
 use mathlib.Core.List.{List, [], _∷_, _++_}
 use native.Mathlib.Omega.{arith}
 use native.Mathlib.Numerals.{add-one}
@@ -20,7 +19,7 @@ use Rattle.basis.proofs.BoolLaws.{false-of}
 use Rattle.sets.specs.Mask.{slots, mem, Has, insert, remove, full, above}
 use Rattle.sets.specs.Count.{count}
 use Rattle.marks.specs.Table.{isMarked, marking, bytesFor}
-use Rattle.sets.proofs.MaskLaws.{mem-full, insert-lt, insert-old, insert-new, remove-insert, above-lt}
+use Rattle.sets.proofs.MaskLaws.{mem-full, insert-lt, insert-old, remove-insert, above-lt}
 use Rattle.sets.proofs.CountLaws.{count-le, size-first}
 use Rattle.marks.proofs.TableLaws.{length-marking, drop-marking, marking-new, marking-old, place-within, marks-marking}
 use Rattle.orders.specs.Problem.{Problem}

@@ -4,7 +4,7 @@
 --     dead-here           a set from which every step leads to a dead set is dead
 --     first-end           where all are placed, the first way on is to stop
 --     first-step          the best event, and then the first way on
-use Prim.Native.Nat.{ℕ, _<_, _≤_}
+use Prim.Native.Nat.{ℕ, _<_}
 use mathlib.Core.Path.{_≡_, sym, subst}
 use mathlib.Core.Logic.{_⊎_, inl, inr, ⊎-elim, _↔_}
 use mathlib.Core.List.{List, [], _∷_}

@@ -16,7 +16,7 @@ use Rattle.basis.specs.Test.{from}
 use Rattle.orders.specs.Problem.{Problem}
 use Rattle.orders.specs.Order.{Meets}
 use Rattle.orders.specs.First.{FirstOf}
-use Rattle.orders.specs.Step.{With, Below, Ready, Runs, Dead}
+use Rattle.orders.specs.Step.{With, Ready, Runs, Dead}
 use Rattle.orders.specs.Inits.{Begins}
 use Rattle.orders.specs.Tables.{tabled}
 use Rattle.orders.specs.Answer.{Fits, Told, Answered}

@@ -5,19 +5,16 @@
 use mathlib.Core.Path.{_≡_, sym, ap, _∙_, subst}
 use mathlib.Core.Bool.{Bool, true, false, cond}
 use mathlib.Core.List.{List}
-use mathlib.Core.Option.{Option, none, some}
 use Prim.Native.Nat.{ℕ, zero, suc, _+_, _-_, _<_, _≤_}
 use native.Mathlib.Omega.{arith}
 use borrow.Author.Tests.{le-ltb, lt-ltb}
-use lib.Dec.{ltb, eqb}
+use lib.Dec.{ltb}
 use lib.ListN.{length}
-use Rattle.basis.specs.Test.{non, any}
 use Rattle.basis.proofs.ListLaws.{getD-mem}
 use Rattle.format.specs.Limits.{maxBytes}
-use Rattle.format.specs.Event.{readsSome}
 use Rattle.format.specs.Execution.{Execution, noRow}
 use Rattle.format.specs.Field.{nextAt}
-use Rattle.parse.specs.Parse.{Parsed, refused, whole, placeOf, State, blank, faultAt, after, lowestLacking, completed, finish, fieldsFrom, parse}
+use Rattle.parse.specs.Parse.{Parsed, refused, whole, placeOf, State, blank, faultAt, after, finish, fieldsFrom, parse}
 use Rattle.parse.specs.Promise.{row}
 use Rattle.parse.proofs.ParseLaws.{not-whole, finished-whole}
 use Rattle.parse.proofs.PromiseLaws.{promise}

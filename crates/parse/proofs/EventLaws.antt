@@ -2,26 +2,21 @@
 --     seen-length, written-length   the data is as long as it has to be
 --     well-event                    what it describes
 --     stands-first                  an init among the events before it
-use mathlib.Core.Path.{_≡_, refl, sym, ap, _∙_, subst}
-use mathlib.Core.Logic.{_⊎_, inl, inr, ⊎-elim, _↔_}
-use mathlib.Core.Bool.{Bool, true, false, cond, false≢true}
-use mathlib.Core.List.{List, [], _∷_, List·Memᴰ}
-use Prim.Native.Nat.{ℕ, zero, suc, _+_, _-_, _<_, _≤_}
+use mathlib.Core.Path.{_≡_, refl}
+use mathlib.Core.Logic.{_⊎_, inl, inr}
+use mathlib.Core.Bool.{Bool, true, false, cond}
+use mathlib.Core.List.{List, []}
+use Prim.Native.Nat.{ℕ, _+_, _≤_}
 use native.Mathlib.Omega.{arith}
-use borrow.Author.Tests.{eqb-true, eqb-false, leb-true, ltb-true, eq-eqb, ne-eqb}
-use lib.Dec.{T, eqb, ltb, leb}
-use lib.ListN.{length, getD, take, drop, length-take, length-drop}
+use borrow.Author.Tests.{eqb-true, eqb-false, leb-true}
+use lib.Dec.{T, eqb}
+use lib.ListN.{length, take, drop, length-take, length-drop}
 use Rattle.basis.specs.Test.{_and_, _or_, non, any, all}
-use Rattle.basis.proofs.BoolLaws.{true-T, T-true, false-T, and-both, or-either, cond-cases, non-true, and-holds}
-use Rattle.basis.proofs.LoopLaws.{any-intro}
+use Rattle.basis.proofs.BoolLaws.{T-true, and-both, or-either, non-true}
 use Rattle.format.specs.declared.Head.{Head}
 use Rattle.format.specs.declared.Shape.{Shape}
-use Rattle.format.specs.declared.Row.{Row}
-use Rattle.format.specs.declared.Pair.{Pair}
-use Rattle.format.specs.Limits.{maxMemory}
-use Rattle.format.specs.Shape.{reads, writes, initial, sc, divides, tearOf}
-use Rattle.format.specs.Event.{Access, Event, isInit, meets, readsAt, writesAt, isMarker}
-use Rattle.format.specs.Execution.{eventNo}
+use Rattle.format.specs.Shape.{reads, writes, initial}
+use Rattle.format.specs.Event.{Event, isInit, meets}
 use Rattle.format.specs.Layout.{eventBytes, dataBytes, agentOf, shapeOf, seenOf, writtenOf, accessOf, eventOf}
 use Rattle.content.specs.Content.{inside, formed, alone, standsFirst, eventFits}
 use Rattle.content.proofs.ContentLaws.{SizedFacts, KindFacts, a-read, a-write, both, a-marker, InitFacts, OtherFacts, formed-cases}

@@ -15,7 +15,7 @@ use Prim.Native.Nat.{ℕ, _+_, _-_, _<_, _≤_}
 use native.Mathlib.Omega.{arith}
 use native.Mathlib.Nat.{eq-or-lt-of-le}
 use borrow.Author.Tests.{eqb-true, eqb-false, eq-eqb, ne-eqb, le-leb, lt-ltb, le-ltb}
-use lib.Dec.{T, eqb, ltb, leb}
+use lib.Dec.{T, eqb, ltb}
 use lib.ListN.{length, getD, length-append, List·getD-append}
 use lib.Seq.{getD-append-seam}
 use Rattle.basis.specs.Test.{_and_, _or_, non, any, all, number, from}
@@ -27,8 +27,8 @@ use Rattle.format.specs.declared.Head.{Head}
 use Rattle.format.specs.declared.Shape.{Shape}
 use Rattle.format.specs.declared.Row.{Row}
 use Rattle.format.specs.declared.Pair.{Pair}
-use Rattle.format.specs.Limits.{maxAgents, maxMemory, maxInits, maxOthers, maxPairs}
-use Rattle.format.specs.Shape.{initial, sc, divides}
+use Rattle.format.specs.Limits.{maxInits, maxOthers, maxPairs}
+use Rattle.format.specs.Shape.{initial}
 use Rattle.format.specs.Event.{Access, Event, nobody, isInit, meets, readsSome}
 use Rattle.format.specs.Execution.{Execution, eventNo, event, inits, others, rowBelow, pairBelow, noRow, noPair}
 use Rattle.format.specs.Layout.{editionOf, headBytes, eventBytes, dataBytes, rowBytes, pairBytes, headOf, agentOf, shapeOf, accessOf, eventOf, rowOf, pairOf}

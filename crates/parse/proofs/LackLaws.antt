@@ -1,22 +1,21 @@
 -- The test `lacks` of specs/Parse.antt and what it stands for, `RowlessAt` of specs/Described.antt.
---     is-event                      who does what `nobody` does not is an event
 --     rowless-lacks, lacks-rowless  from a read byte without a row to the test; and back, for an event with one access
 --     has-row                       where no event lacks a row, each byte that is read has one
 --     lacking-there                 the event that `lowestLacking` names is there
 --     OneAccess                     an event with one access
 --     lowest-rowless                where all are such, the event that `lowestLacking` names is the lowest with a read byte without a row
 -- Assumes nothing.
-use mathlib.Core.Path.{_≡_, refl, sym, ap, _∙_, subst}
+use mathlib.Core.Path.{_≡_, sym, ap, _∙_, subst}
 use mathlib.Core.Logic.{_⊎_, inl, inr}
-use mathlib.Core.Bool.{Bool, true, false, cond}
-use mathlib.Core.List.{List, [], _∷_, List·Memᴰ, List·Memᴰ·head, List·Memᴰ·tail, List·Memᴰ·eq-of-singleton}
+use mathlib.Core.Bool.{Bool, true}
+use mathlib.Core.List.{List, [], _∷_, List·Memᴰ, List·Memᴰ·eq-of-singleton}
 use mathlib.Core.Option.{none, some}
 use Prim.Native.Nat.{ℕ, _+_, _<_, _≤_}
 use native.Mathlib.Omega.{arith}
 use native.Mathlib.Nat.{zero-add}
-use borrow.Author.Tests.{ltb-true, ltb-false, eqb-true, eq-eqb, le-leb, lt-ltb}
+use borrow.Author.Tests.{eqb-true, eq-eqb, le-leb, lt-ltb}
 use lib.Dec.{T, eqb, ltb, leb}
-use lib.ListN.{length, getD, List·getD-eq-default}
+use lib.ListN.{length, getD}
 use Rattle.basis.specs.Test.{_and_, non, any, from}
 use Rattle.basis.proofs.BoolLaws.{decide, and-elim, and-intro, non-elim, non-intro, true-T, T-true, false-T, both-hold}
 use Rattle.basis.proofs.ListLaws.{from-elim, from-mem, from-length, from-at}
@@ -24,34 +23,13 @@ use Rattle.basis.proofs.LoopLaws.{any-elim, any-intro}
 use Rattle.basis.proofs.FindLaws.{find-none, find-first}
 use Rattle.format.specs.declared.Row.{Row}
 use Rattle.format.specs.Shape.{reads, covers}
-use Rattle.format.specs.Event.{Access, Event, nobody, lookup, accessAt, shapeAt, readsAt}
+use Rattle.format.specs.Event.{Access, Event, lookup, accessAt, shapeAt, readsAt}
 use Rattle.format.specs.Execution.{Execution, eventNo, event}
-use Rattle.format.proofs.EventLaws.{covers-nothing, readsAt-nobody, readsAt-one}
+use Rattle.format.proofs.ExecutionLaws.{lookup-mem, event-inside}
+use Rattle.format.proofs.EventLaws.{readsAt-nobody, readsAt-one}
 use Rattle.format.proofs.LayoutLaws.{covered}
 use Rattle.parse.specs.Parse.{isRow, lacks, lowestLacking}
 use Rattle.parse.specs.Described.{RowlessAt}
-
--- who does what `nobody` does not is an event
-pub is-event : (f : Event → Bool) → f nobody ≡ false → (x : Execution) (e : ℕ) → T (f (event x e)) → e < length (x .events)
-unfolding event eventNo
-is-event f z x e t = go (ltb e (length (x .events))) refl
-  where
-    go : (b : Bool) → ltb e (length (x .events)) ≡ b → e < length (x .events)
-    go true p = ltb-true _ _ p
-    go false p = absurd (false-T _ z (subst (λ (d : Event). T (f d)) (List·getD-eq-default (x .events) nobody (ltb-false _ _ p)) t))
-
--- an access that covers byte n is one of the event's
-module _ (n : ℕ) where
-  looked : (l : List Access) → T (covers (lookup l n .shape) n) → List·Memᴰ (lookup l n) l
-  unfolding lookup
-  looked [] t = absurd (false-T _ (covers-nothing n) t)
-  looked (a ∷ l) t = go (covers (a .shape) n) refl (looked l)
-    where
-      go : (b : Bool) → covers (a .shape) n ≡ b → (T (covers (lookup l n .shape) n) → List·Memᴰ (lookup l n) l) → List·Memᴰ (cond (covers (a .shape) n) a (lookup l n)) (a ∷ l)
-      go true p ih = subst (λ (b : Bool). List·Memᴰ (cond b a (lookup l n)) (a ∷ l)) (sym p) (List·Memᴰ·head refl)
-      go false p ih =
-          subst (λ (b : Bool). List·Memᴰ (cond b a (lookup l n)) (a ∷ l)) (sym p)
-          (List·Memᴰ·tail (ih (subst (λ (b : Bool). T (covers (cond b a (lookup l n) .shape) n)) p t)))
 
 -- the event's one access reads and covers byte n: the event reads the byte
 reads-byte : (d : Event) (a : Access) → d .accesses ≡ a ∷ [] → (n : ℕ) → T (reads (a .shape)) → a .shape .start ≤ n → n < a .shape .start + a .shape .width
@@ -90,7 +68,7 @@ module _ (x : Execution) (e : ℕ) where
       let a = lookup (event x e .accesses) n in
       let w = and-elim (covers (a .shape) n) (reads (a .shape)) (r .reads) in
       let c = covered (a .shape) n (T-true _ (w .0)) in
-      any-intro gap (event x e .accesses) a (looked n (event x e .accesses) (w .0))
+      any-intro gap (event x e .accesses) a (lookup-mem (event x e .accesses) n (w .0))
       (and-intro (reads (a .shape)) _ (w .1)
       (any-intro bare (from (a .shape .start) (a .shape .width)) n (from-mem (a .shape .width) (a .shape .start) n (c .0) (c .1)) (non-intro _ (no-row-found r))))
 
@@ -119,7 +97,7 @@ has-row x l e n t = go (decide (any (isRow e n) (x .rows)))
     go : T (any (isRow e n) (x .rows)) ⊎ (T (any (isRow e n) (x .rows)) → ⊥) → any (isRow e n) (x .rows) ≡ true
     go (inl y) = T-true _ y
     go (inr h) =
-        let b = is-event (λ (d : Event). readsAt d n) (readsAt-nobody n) x e t in
+        let b = event-inside x (λ (d : Event). T (readsAt d n)) (false-T _ (readsAt-nobody n)) e t in
         absurd (find-none (lacking x) (from 0 (length (x .events))) l e (from-mem (length (x .events)) 0 e (omega arith) (omega arith))
         (rowless-lacks x e (record { byte = n; reads = t; no-row = λ r m i j. h (row-found x e n r m i j) })))
 

@@ -3,17 +3,17 @@
 --     rung            one rung of a ladder
 --     blamed          the number that `faultAt` gives is the one that the field is to be refused by
 -- Assumes nothing.
-use mathlib.Core.Path.{_≡_, refl, sym, _∙_, subst}
+use mathlib.Core.Path.{_≡_, refl, sym, subst}
 use mathlib.Core.Logic.{_⊎_, inl, inr}
 use mathlib.Core.Bool.{Bool, true, false, cond, false≢true}
 use mathlib.Core.List.{List}
-use Prim.Native.Nat.{ℕ, zero, suc, _+_, _<_, _≤_}
+use Prim.Native.Nat.{ℕ, zero, suc, _+_, _≤_}
 use native.Mathlib.Omega.{arith}
-use borrow.Author.Tests.{ltb-true, ltb-false, eqb-true, eqb-false, leb-false, le-leb}
-use lib.Dec.{eqb, ltb, leb}
+use borrow.Author.Tests.{ltb-true, ltb-false, eqb-true, eqb-false}
+use lib.Dec.{eqb, ltb}
 use lib.ListN.{length}
 use Rattle.basis.specs.Test.{non}
-use Rattle.basis.proofs.BoolLaws.{non-true, both-hold}
+use Rattle.basis.proofs.BoolLaws.{non-true}
 use Rattle.format.specs.Limits.{maxInits, maxOthers, maxPairs}
 use Rattle.format.specs.Execution.{Execution, inits, others}
 use Rattle.format.specs.Field.{fieldBytes, nextAt, fieldPlace}

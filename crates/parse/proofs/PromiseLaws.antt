@@ -1,31 +1,32 @@
 -- What `parse` accepts keeps the reader's promise: specs/Promise.antt. Kept field by field, then the tests after all fields. Assumes nothing.
 --     promise : parse s ≡ whole x → WellFormed x
-use mathlib.Core.Path.{_≡_, refl, sym, ap, _∙_, subst}
+use mathlib.Core.Path.{_≡_, refl, sym, _∙_, subst}
 use mathlib.Core.Logic.{_⊎_, inl, inr, ⊎-elim}
 use mathlib.Core.Bool.{Bool, true, false, false≢true}
 use mathlib.Core.List.{List, [], _∷_, _++_, List·Memᴰ, List·Memᴰ·head, List·Memᴰ·tail, List·Memᴰ·eq-of-singleton}
-use mathlib.Core.Option.{Option, none, some}
-use Prim.Native.Nat.{ℕ, zero, suc, _+_, _-_, _<_, _≤_}
+use mathlib.Core.Option.{none}
+use Prim.Native.Nat.{ℕ, zero, suc, _-_, _<_, _≤_}
 use native.Mathlib.Omega.{arith}
 use native.Mathlib.Nat.{eq-or-lt-of-le}
-use borrow.Author.Tests.{ltb-true, ltb-false, eqb-true, eqb-false, eq-eqb, le-ltb, lt-ltb}
-use lib.Dec.{T, eqb, ltb, leb}
+use borrow.Author.Tests.{ltb-true, ltb-false, eqb-true, eqb-false}
+use lib.Dec.{T, eqb, ltb}
 use lib.ListN.{length, getD, length-append}
 use Rattle.basis.specs.Test.{_and_, _or_, non, any, all, number}
-use Rattle.basis.proofs.BoolLaws.{and-intro, or-left, or-right, or-cases, and-elim, true-T, T-true, false-T, T-false, and-both, or-either, non-true, non-false}
+use Rattle.basis.proofs.BoolLaws.{and-elim, true-T, T-true, false-T, and-both, or-either}
 use Rattle.basis.proofs.ListLaws.{each-snoc, two-snoc}
-use Rattle.basis.proofs.LoopLaws.{any-elim, any-intro, number-snoc, number-le, all-number}
+use Rattle.basis.proofs.LoopLaws.{any-elim, any-intro, number-snoc}
 use Rattle.format.specs.declared.Head.{Head}
 use Rattle.format.specs.declared.Row.{Row}
 use Rattle.format.specs.declared.Pair.{Pair}
-use Rattle.format.specs.Limits.{maxBytes, maxAgents, maxMemory, maxInits, maxOthers, maxPairs}
-use Rattle.format.specs.Event.{Access, Event, nobody, isInit, meets, readsAt, writesAt, readsSome}
-use Rattle.format.specs.Execution.{Execution, eventNo, event, inits, others, rowBelow, pairBelow, noHead, noRow, noPair}
+use Rattle.format.specs.Limits.{maxBytes, maxInits, maxOthers, maxPairs}
+use Rattle.format.specs.Event.{Access, Event, nobody, isInit, meets, readsAt, readsSome}
+use Rattle.format.specs.Execution.{Execution, eventNo, event, inits, others, rowBelow, pairBelow, noRow, noPair}
 use Rattle.format.specs.Field.{tagAt, nextAt, valueAt}
-use Rattle.format.specs.Layout.{editionOf, headBytes, pairBytes, rowBytes, headOf, agentOf, shapeOf, accessOf, eventOf, rowOf, pairOf}
-use Rattle.content.specs.Content.{headFits, roomFor, joins, rowRises, rowFits, parts, pairRises, pairFits}
-use Rattle.parse.specs.Parse.{Parsed, refused, whole, State, placeOf, blank, headFault, eventFault, rowFault, pairFault, faultAt, taken, after, isRow, lowestLacking, completed, finish, fieldsFrom, parse}
-use Rattle.parse.specs.Promise.{WellEvent, row, pair, OneRow, WellFormed}
+use Rattle.format.specs.Layout.{editionOf, headBytes, pairBytes, rowBytes, headOf, agentOf, shapeOf, eventOf, rowOf, pairOf}
+use Rattle.content.specs.Content.{headFits, joins, rowRises, rowFits, parts, pairRises, pairFits}
+use Rattle.parse.specs.Parse.{whole, State, blank, headFault, eventFault, rowFault, pairFault, faultAt, taken, after, isRow, lowestLacking, finish, fieldsFrom, parse}
+use Rattle.format.proofs.ExecutionLaws.{row-trans, pair-trans}
+use Rattle.parse.specs.Promise.{WellEvent, row, OneRow, WellFormed}
 use Rattle.parse.proofs.ParseLaws.{no-fault-non, not-whole, finished-whole, event-passed, was-none, was-2, was-3, was-4, known, head-clean, event-clean, row-clean, pair-clean, at-end, at-fault, at-field}
 use Rattle.parse.proofs.LackLaws.{has-row}
 use Rattle.content.proofs.ContentLaws.{head-facts, room-init, room-other, JoinedFacts, joined, PartedFacts, parted}
@@ -154,35 +155,6 @@ module _ {A : Type 0} (d : A) (below : A → A → Bool) (trans : (a b c : A) �
       go (inl z) s = absurd (let q = eqb-true (length l) 0 z in omega arith)
       go (inr t) (inl q) = subst (λ (j : ℕ). T (below (getD l j d) a)) (sym q) (true-T _ t)
       go (inr t) (inr q) = trans (getD l i d) (getD l (length l - 1) d) a (r i (length l - 1) q (omega arith)) (true-T _ t)
-
--- (m, n) is before (o, p), number by number
-lex-trans : (m n o p q r : ℕ) → T (ltb m o or (eqb m o and ltb n p)) → T (ltb o q or (eqb o q and ltb p r)) → T (ltb m q or (eqb m q and ltb n r))
-lex-trans m n o p q r s t = go (cases m n o p s) (cases o p q r t)
-  where
-    cases : (a b c d : ℕ) → T (ltb a c or (eqb a c and ltb b d)) → (a < c) ⊎ ((a ≡ c) × (b < d))
-    cases a b c d u =
-        ⊎-elim (λ x. inl (ltb-true a c x)) (λ x. let w = and-both (eqb a c) (ltb b d) x in inr (eqb-true a c (w .0), ltb-true b d (w .1)))
-        (or-either (ltb a c) (eqb a c and ltb b d) (T-true _ u))
-
-    less : m < q → T (ltb m q or (eqb m q and ltb n r))
-    less x = or-left (ltb m q) (eqb m q and ltb n r) (true-T _ (lt-ltb m q x))
-
-    same : m ≡ q → n < r → T (ltb m q or (eqb m q and ltb n r))
-    same x y = or-right (ltb m q) (eqb m q and ltb n r) (and-intro (eqb m q) (ltb n r) (true-T _ (eq-eqb m q x)) (true-T _ (lt-ltb n r y)))
-
-    go : (m < o) ⊎ ((m ≡ o) × (n < p)) → (o < q) ⊎ ((o ≡ q) × (p < r)) → T (ltb m q or (eqb m q and ltb n r))
-    go (inl x) (inl y) = less (omega arith)
-    go (inl x) (inr y) = less (omega arith)
-    go (inr x) (inl y) = less (omega arith)
-    go (inr x) (inr y) = same (omega arith) (omega arith)
-
-row-trans : (a b c : Row) → T (rowBelow a b) → T (rowBelow b c) → T (rowBelow a c)
-unfolding rowBelow
-row-trans a b c s t = lex-trans (a .reader) (a .address) (b .reader) (b .address) (c .reader) (c .address) s t
-
-pair-trans : (a b c : Pair) → T (pairBelow a b) → T (pairBelow b c) → T (pairBelow a c)
-unfolding pairBelow
-pair-trans a b c s t = lex-trans (a .first) (a .second) (b .first) (b .second) (c .first) (c .second) s t
 
 rows-more : (h : Head) (events : List Event) (l : List Row) (v : List ℕ) → KeptRows events l → rowFault h events l v ≡ 0 → KeptRows events (l ++ (rowOf (h .edition) v ∷ []))
 unfolding rowFault rowFits rowRises

@@ -1,5 +1,5 @@
 -- Every refusal of `parse` is by a row of 01's table: specs/Refusal.antt. Kept field by field, then the tests after all fields. So the fuel never runs out.
---     refusal : Tabled
+--     refusal : RefusedByTable
 --     blames-number : Blames s k n → (2 ≤ n) × (n ≤ 9)
 --     refusal-number : parse s ≡ refused n p → (1 ≤ n) × (n ≤ 11)
 --     refusal-place : parse s ≡ refused n p → p ≤ length s
@@ -8,7 +8,6 @@ use mathlib.Core.Path.{_≡_, refl, sym, ap, _∙_, subst}
 use mathlib.Core.Logic.{_⊎_, inl, inr, ⊎-elim}
 use mathlib.Core.Bool.{Bool, true, false}
 use mathlib.Core.List.{List, [], _∷_, _++_}
-use mathlib.Core.Option.{Option, none, some}
 use Prim.Native.Nat.{ℕ, zero, suc, _+_, _-_, _<_, _≤_}
 use native.Mathlib.Omega.{arith}
 use native.Mathlib.Nat.{eq-or-lt-of-le, le-of-eq, le-of-suc-le-suc}
@@ -16,8 +15,8 @@ use native.Mathlib.Decide.{decLt}
 use borrow.Author.Tests.{ltb-true, ltb-false, eqb-true, eqb-false, ne-eqb}
 use lib.Dec.{T, eqb, ltb}
 use lib.ListN.{length, getD, length-append, List·getD-eq-default, List·getD-append}
-use Rattle.basis.specs.Test.{non, any}
-use Rattle.basis.proofs.BoolLaws.{true-T, false-T, non-true, non-false}
+use Rattle.basis.specs.Test.{any}
+use Rattle.basis.proofs.BoolLaws.{true-T, false-T}
 use Rattle.basis.proofs.ListLaws.{snoc-split, last-at, each-snoc, mem-getD, getD-mem}
 use Rattle.basis.proofs.LoopLaws.{any-elim, any-intro}
 use Rattle.format.specs.Limits.{maxBytes}
@@ -27,10 +26,11 @@ use Rattle.format.specs.Execution.{Execution, event, eventNo}
 use Rattle.format.specs.Field.{tagAt, valueAt, fieldPlace}
 use Rattle.parse.specs.Parse.{Parsed, refused, placeOf, State, blank, faultAt, taken, after, finish, fieldsFrom, parse}
 use Rattle.parse.specs.Described.{fieldsTaken, described, RowlessAt}
-use Rattle.parse.specs.Refusal.{stateNo, faultNo, Faultless, tagNo, Blames, Refusal, Tabled}
+use Rattle.parse.specs.Refusal.{stateNo, faultNo, Faultless, tagNo, Blames, Refusal, RefusedByTable}
 use Rattle.parse.proofs.ParseLaws.{Finished, headless, none-reads, rowless, complete, finished, not-whole, inside, was-none, was-2, known, at-end, at-fault, at-field}
 use Rattle.parse.proofs.DescribedLaws.{taken-end, taken-more}
-use Rattle.parse.proofs.LackLaws.{is-event, OneAccess, lowest-rowless}
+use Rattle.format.proofs.ExecutionLaws.{event-inside}
+use Rattle.parse.proofs.LackLaws.{OneAccess, lowest-rowless}
 use Rattle.parse.proofs.LadderLaws.{lastTag, rung, blamed}
 
 -- ---- what is known before field number k
@@ -193,7 +193,7 @@ some-read x h = let w = any-elim readsSome (x .events) (true-T _ h) in let i = m
 
 none-read : (x : Execution) → any readsSome (x .events) ≡ false → (e : ℕ) → T (readsSome (event x e)) → ⊥
 unfolding event eventNo readsSome any
-none-read x h e t = false-T _ h (any-intro readsSome (x .events) (event x e) (getD-mem nobody (x .events) e (is-event readsSome refl x e t)) t)
+none-read x h e t = false-T _ h (any-intro readsSome (x .events) (event x e) (getD-mem nobody (x .events) e (event-inside x (λ (d : Event). T (readsSome d)) (false-T _ refl) e t)) t)
 
 -- the refusal that is given is the one that has a row
 said : (s : List ℕ) (n p : ℕ) {m o : ℕ} → Refusal s m o → refused m o ≡ refused n p → Refusal s n p
@@ -266,7 +266,7 @@ module _ (s : List ℕ) (n p : ℕ) (short : length s ≤ maxBytes) where
   fields-refused zero k = λ b i clean w g e. absurd (omega arith)
   fields-refused (suc f) k = one-more f k (fields-refused f (suc k))
 
-pub refusal : Tabled
+pub refusal : RefusedByTable
 unfolding parse described fieldPlace stateNo
 refusal s n p e = go (ltb maxBytes (length s)) refl
   where

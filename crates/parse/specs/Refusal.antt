@@ -5,7 +5,7 @@
 --     WrongTag s k        field number k has a tag that is not allowed there
 --     Blames s k n        field number k is to be refused by number n: its row of the table, with what is wrong
 --     Refusal s n p       number n at place p, by a row of the table, and nothing that is tested before it is at fault
---     Tabled              every refusal is by a row of the table
+--     RefusedByTable              every refusal is by a row of the table
 -- Assumes nothing.
 use mathlib.Core.Path.{_≡_}
 use mathlib.Core.Bool.{false}
@@ -87,5 +87,5 @@ pub data Refusal (s : List ℕ) : ℕ → ℕ → Type 0 where
   no-row : (e : ℕ) → length s ≤ maxBytes → Faultless s → (d : ℕ) → T (readsSome (event (described s) d)) → tagNo s (suc e) ≡ 2 → RowlessAt (described s) e
       → ((d : ℕ) → d < e → RowlessAt (described s) d → ⊥) → Refusal s 11 (fieldPlace s (suc e))
 
-abbrev pub Tabled : Type 0
-Tabled = (s : List ℕ) (n p : ℕ) → parse s ≡ refused n p → Refusal s n p
+abbrev pub RefusedByTable : Type 0
+RefusedByTable = (s : List ℕ) (n p : ℕ) → parse s ≡ refused n p → Refusal s n p

@@ -2,7 +2,7 @@
 --     writers-unique gathers-unique    the writers that have bars with v, and those of each event
 --     next-unique                      the next event
 --     entered-unique                   a step on
-use Prim.Native.Nat.{ℕ, _+_, _-_, _<_, _≤_}
+use Prim.Native.Nat.{ℕ, _+_, _-_, _<_}
 use mathlib.Core.Path.{_≡_, sym, ap, _∙_}
 use mathlib.Core.Bool.{false}
 use mathlib.Core.List.{List}

@@ -2,7 +2,7 @@
 --     Untried    each event from `from` on, below m, that passes is marked, or is left
 --     untried-start, untried-lowest, untried-hit, untried-next, untried-end     a loop over those left, the lowest first
 use mathlib.Core.Path.{_≡_, sym, ap, _∙_, subst}
-use mathlib.Core.Bool.{Bool, true, false}
+use mathlib.Core.Bool.{Bool, true}
 use mathlib.Core.Logic.{_⊎_, inl, inr, ⊎-elim}
 use Prim.Native.Nat.{ℕ, _^_, _<_, _≤_, min}
 use native.Mathlib.Omega.{arith}

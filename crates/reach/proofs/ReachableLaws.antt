@@ -7,20 +7,18 @@
 --     count-unique      two answers to one count agree
 use Prim.Native.Nat.{ℕ, zero, suc, _+_, _-_, _^_, _<_, _≤_}
 use mathlib.Core.Path.{_≡_, refl, sym, ap, subst, _∙_}
-use mathlib.Core.Logic.{_⊎_, inl, inr, ⊎-elim}
+use mathlib.Core.Logic.{inl, inr}
 use mathlib.Core.List.{List, [], _∷_, _++_}
 use native.Mathlib.Omega.{arith}
-use native.Mathlib.Decide.{decLt}
 use lib.Pow.{pow-pos, pow-mono}
 use lib.ListN.{length}
 use Rattle.basis.specs.Test.{from}
-use Rattle.sets.specs.Mask.{Has, insert, full, above}
+use Rattle.sets.specs.Mask.{full, above}
 use Rattle.sets.proofs.MaskLaws.{mem-full, insert-lt, insert-old, above-lt, above-inj}
 use Rattle.reach.specs.declared.Count.{Count}
 use Rattle.reach.specs.declared.Count.the-variants.{All, Over}
 use Rattle.orders.specs.Problem.{Problem}
 use Rattle.orders.specs.Order.{In, Distinct}
-use Rattle.orders.specs.Step.{Ready}
 use Rattle.reach.specs.Reachable.{Reached, start, place, Counted, Exceeds, CountIs}
 use Rattle.orders.proofs.FirstLaws.{Tri, below, same, tri}
 use Rattle.orders.proofs.InitsLaws.{from-length}

@@ -4,13 +4,11 @@
 --     line-some         a line has at least one byte
 --     line-bound        the line of an answer of the code, with an order of bytes, is at most 34 + 4 * n bytes for n events
 -- Assumes nothing.
-use mathlib.Core.Path.{_≡_, refl, sym, ap, _∙_}
-use mathlib.Core.List.{List, [], _∷_, _++_, append-assoc, append-nil}
-use Prim.Native.Nat.{ℕ, suc, _+_, _*_, _^_, _≤_, _<_}
+use mathlib.Core.Path.{_≡_}
+use mathlib.Core.List.{List, [], _∷_, _++_}
+use Prim.Native.Nat.{ℕ, suc, _+_, _*_, _≤_, _<_}
 use native.Mathlib.Omega.{arith}
-use native.Mathlib.Numerals.{add-one}
-use lib.ListN.{length, getD, take, drop, length-append, take-append-drop}
-use lib.Seq.{take-all, take-suc}
+use lib.ListN.{length, getD, length-append}
 use Rattle.answer.specs.declared.Name.{Name}
 use Rattle.answer.specs.declared.Name.the-variants.{Number, None}
 use Rattle.answer.specs.declared.Four.{Four}

@@ -7,7 +7,7 @@
 --     lineOf x order    the line of x with the order's event numbers
 -- Assumes nothing.
 use Prim.Native.Nat.{ℕ}
-use mathlib.Core.List.{List, [], _∷_, _++_}
+use mathlib.Core.List.{List, [], _++_}
 use Rattle.answer.specs.declared.Name.{Name}
 use Rattle.answer.specs.declared.Name.the-variants.{Number, None}
 use Rattle.answer.specs.declared.Four.{Four}

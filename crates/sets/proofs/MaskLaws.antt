@@ -12,14 +12,14 @@
 --     at-slot                               an event below `slots` is its own place in a mask
 --     above-inj                             a set that has the first k events is known by the others
 use mathlib.Core.Path.{_≡_, refl, sym, ap, ap₂, _∙_, subst}
-use mathlib.Core.Bool.{Bool, true, false, not, _&&_, _||_, or-true, or-false, and-false, and-true, false≢true}
+use mathlib.Core.Bool.{Bool, true, false, not, _&&_, _||_, or-false, and-false, and-true, false≢true}
 use mathlib.Core.Logic.{_⊎_, inl, inr, ⊎-elim}
 use Prim.Native.Nat.{ℕ, zero, suc, _+_, _-_, _*_, _/_, _%_, _^_, _≤_, _<_, zero-le, suc-le-suc}
-use native.Mathlib.Nat.{mod-lt, zero-div, div-one, pow-suc, le-of-suc-le-suc, not-suc-le-zero, zero-lt-suc, lt-of-lt-of-le, mul-div-cancel, mul-mod-left, div-eq-of-lt, lt-of-le-of-lt, lt-suc-self, sub-zero, suc-add, add-suc, one-mul, mod-eq-of-lt, lt-irrefl}
+use native.Mathlib.Nat.{mod-lt, zero-div, div-one, pow-suc, le-of-suc-le-suc, not-suc-le-zero, zero-lt-suc, lt-of-lt-of-le, mul-div-cancel, mul-mod-left, div-eq-of-lt, lt-of-le-of-lt, lt-suc-self, sub-zero, one-mul, mod-eq-of-lt, lt-irrefl}
 use native.Mathlib.Numerals.{add-one, one-add}
 use native.Mathlib.Omega.{arith}
 use native.Mathlib.Decide.{decLe, decLt, ℕ-discrete}
-use borrow.Author.Tests.{eq-eqb, ne-eqb, eqb-true}
+use borrow.Author.Tests.{ne-eqb, eqb-true}
 use lib.Dec.{eqb, eqb·zero-suc, eqb·suc-zero, eqb·suc-suc}
 use lib.Arith.{lt-one}
 use lib.Pow.{pow-pos, pow-mono, pow-lt, shr-shr, shr-lt, ones-lt, split}

@@ -1,17 +1,16 @@
 -- Two outcomes that the reader's contract allows for the same bytes are equal, struct and places too. Assumes nothing.
 --     handed-unique : Handed s o → Handed s o′ → o ≡ o′
-use mathlib.Core.Path.{_≡_, refl, sym, ap, _∙_, subst}
+use mathlib.Core.Path.{_≡_, refl, sym, ap, _∙_}
 use mathlib.Core.Bool.{Bool, true, false}
 use mathlib.Core.List.{List}
 use Prim.Native.Nat.{ℕ, suc, _+_, _-_, _<_, _≤_}
 use native.Mathlib.Omega.{arith}
 use borrow.Author.Tests.{ltb-true, ltb-false}
 use lib.Dec.{ltb}
-use lib.ListN.{length, getD, drop, replicate, getD-replicate}
+use lib.ListN.{length, getD, getD-replicate}
 use lib.Seq.{ext-getD, getD-drop}
 use Rattle.format.specs.declared.Head.{Head}
 use Rattle.format.specs.Limits.{slots}
-use Rattle.format.specs.Event.{Event}
 use Rattle.format.specs.Execution.{Execution, inits}
 use Rattle.format.specs.Field.{fieldPlace}
 use Rattle.sheet.specs.declared.Reading.{Reading}

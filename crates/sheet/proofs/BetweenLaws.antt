@@ -4,29 +4,28 @@
 --     Turn, turn-start, turn-end, turn-fault, turn-ready, turn-next     the loop's invariant
 use Prim.Native.Nat.{ℕ, zero, suc, _+_, _*_, _-_, _≤_, _<_}
 use mathlib.Core.Path.{_≡_, refl, sym, ap, _∙_, subst}
-use mathlib.Core.Logic.{_⊎_, inl, inr, ⊎-elim}
+use mathlib.Core.Logic.{_⊎_, ⊎-elim}
 use mathlib.Core.List.{List, [], _∷_, _++_, map, map-append}
 use mathlib.Core.Bool.{Bool, true, false, cond}
 use native.Mathlib.Omega.{arith}
 use native.Mathlib.Nat.{add-mul, one-mul, eq-or-lt-of-le}
 use native.Mathlib.Numerals.{add-one}
-use borrow.Author.Tests.{ltb-true, eqb-true, eqb-false}
-use lib.Dec.{ltb, eqb}
-use lib.ListN.{length, getD, take, drop, set, replicate, length-set, length-replicate}
+use lib.Dec.{eqb}
+use lib.ListN.{length, getD, take, drop, set, replicate, length-set}
 use lib.Seq.{take-suc-set, drop-set-lt, drop-drop, getD-set-same, getD-set-other}
-use Rattle.basis.specs.Test.{non, number}
+use Rattle.basis.specs.Test.{number}
 use Rattle.basis.proofs.LoopLaws.{number-snoc, number-both}
 use Rattle.format.specs.declared.Head.{Head}
 use Rattle.format.specs.declared.Row.{Row}
 use Rattle.format.specs.declared.Pair.{Pair}
 use Rattle.format.specs.Limits.{maxBytes, maxInits, maxOthers, slots}
 use Rattle.format.specs.Event.{Event, isInit}
-use Rattle.format.specs.Execution.{Execution, inits, others}
-use Rattle.format.specs.Field.{fieldBytes, tagAt, lengthAt, nextAt, valueAt, fieldPlace}
-use Rattle.format.specs.Layout.{editionOf, headOf, agentOf, eventOf, rowOf, pairOf, rowBytes, rowGap, pairGap}
+use Rattle.format.specs.Execution.{inits, others}
+use Rattle.format.specs.Field.{tagAt, nextAt, valueAt, fieldPlace}
+use Rattle.format.specs.Layout.{editionOf, headOf, agentOf, eventOf, rowBytes, rowGap, pairGap}
 use Rattle.content.specs.Content.{roomFor}
 use Rattle.content.proofs.ContentLaws.{room-init, room-other}
-use Rattle.parse.specs.Parse.{State, refused, placeOf, blank, faultAt, taken, after, finish, fieldsFrom, parse}
+use Rattle.parse.specs.Parse.{State, refused, placeOf, faultAt, taken, after, fieldsFrom, parse}
 use Rattle.parse.proofs.ParseLaws.{event-passed, inside, was-none, was-2, was-3, was-4, event-clean, row-length, pair-length, at-start, at-end, at-fault, at-next}
 use Rattle.entries.specs.declared.Counts.{Counts}
 use Rattle.entries.specs.Entries.{spaced, eventAt, rowAt, pairAt, eventsOn, rowsOn, pairsOn, eventsIn}

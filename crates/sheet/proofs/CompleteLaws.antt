@@ -2,14 +2,13 @@
 --     laid-of                       a whole sheet's counts and places
 --     place-found                   the place of the event that lacks a row
 --     handed-refusal, handed-whole  the reader's outcome
-use Prim.Native.Nat.{ℕ, _<_, _≤_}
+use Prim.Native.Nat.{ℕ, _<_}
 use mathlib.Core.Path.{_≡_, refl, sym, ap, _∙_}
 use mathlib.Core.List.{List}
 use mathlib.Core.Option.{some}
 use native.Mathlib.Omega.{arith}
-use lib.ListN.{length, getD}
+use lib.ListN.{getD}
 use lib.Seq.{getD-take}
-use Rattle.format.specs.Execution.{Execution}
 use Rattle.parse.specs.Parse.{refused, whole, lowestLacking, completed, placeOf, finish, parse}
 use Rattle.parse.proofs.LackLaws.{lacking-there}
 use Rattle.parse.proofs.ParseLaws.{finished-whole}

@@ -1,14 +1,12 @@
 -- A field without a fault: what its value says is what the sheet's bytes from its place on say. Assumes nothing.
 --     value-event, value-row, value-pair     of an event, a row, a pair
-use Prim.Native.Nat.{ℕ, _+_, _≤_}
-use mathlib.Core.Path.{_≡_, ap, _∙_}
+use Prim.Native.Nat.{ℕ, _+_}
+use mathlib.Core.Path.{_≡_, ap}
 use mathlib.Core.List.{List}
 use native.Mathlib.Omega.{arith}
 use lib.ListN.{length}
-use Rattle.format.specs.declared.Head.{Head}
-use Rattle.format.specs.declared.Shape.{Shape}
-use Rattle.format.specs.Field.{fieldBytes, tagAt, lengthAt, valueAt, restAt}
-use Rattle.format.specs.Layout.{eventBytes, dataBytes, shapeOf, eventOf, rowBytes, rowOf, pairOf}
+use Rattle.format.specs.Field.{tagAt, lengthAt, valueAt, restAt}
+use Rattle.format.specs.Layout.{eventBytes, dataBytes, shapeOf, eventOf, rowOf, pairOf}
 use Rattle.format.proofs.LayoutLaws.{shape-front, event-front, row-front, pair-front}
 use Rattle.parse.specs.Parse.{State, faultAt}
 use Rattle.parse.proofs.ParseLaws.{event-passed, value-length, event-clean, row-length, pair-length}

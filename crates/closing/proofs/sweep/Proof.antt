@@ -1,7 +1,7 @@
 -- `closing::sweep` meets its contract: the first i rows are swept, and the others are as they were. The measure is what is left.
 -- Assumes nothing.
-use mathlib.Core.Path.{_≡_, refl, sym, ap, _∙_}
-use Prim.Native.Nat.{ℕ, _+_, _-_, _%_, _≤_, _<_, zero-le}
+use mathlib.Core.Path.{_≡_, refl, ap, _∙_}
+use Prim.Native.Nat.{ℕ, _-_, _%_, _≤_, _<_, zero-le}
 use native.Mathlib.Nat.{le-refl, not-suc-le-zero, mod-eq-of-lt}
 use native.Mathlib.Omega.{arith}
 use borrow.Author.Count.{below-more}
@@ -10,7 +10,7 @@ use denote.Ref.{now}
 use lib.ListN.{length, getD, set, drop, length-set}
 use lib.Seq.{getD-set-same, getD-set-other, drop-set-lt}
 use Rattle.sets.specs.Mask.{slots}
-use Rattle.closing.specs.Sweep.{absorb, Swept}
+use Rattle.closing.specs.Sweep.{absorb}
 use Rattle.closing.proofs.sweep.Statement.{statement}
 use Rattle.closing.proofs.sweep.Tie as tie
 

@@ -1,13 +1,12 @@
 -- `fits::blocked` meets its contract. The invariant: the answer is the answer from event i on. The measure is what is left. Assumes nothing.
 use mathlib.Core.Path.{_≡_, refl, sym, ap, _∙_}
-use Prim.Native.Nat.{ℕ, _-_, _≤_, _<_}
+use Prim.Native.Nat.{ℕ, _-_, _≤_}
 use denote.Ref.{now}
 use native.Mathlib.Omega.{arith}
-use mathlib.Core.List.{List}
 use lib.ListN.{length, drop}
 use Rattle.basis.specs.Test.{_or_, non, any}
 use Rattle.basis.proofs.LoopLaws.{any-none, any-found, any-more}
-use Rattle.format.specs.Event.{Event, nobody}
+use Rattle.format.specs.Event.{nobody}
 use Rattle.format.specs.Execution.{eventNo}
 use Rattle.entries.specs.Entries.{eventsOn}
 use Rattle.entries.proofs.EntriesLaws.{events-count, events-capped}

@@ -1,9 +1,9 @@
 -- `fits::event_fits` meets its contract, test by test. Assumes nothing.
 use mathlib.Core.Path.{_≡_, sym, ap, _∙_}
-use mathlib.Core.Bool.{Bool, true, false}
+use mathlib.Core.Bool.{true, false}
 use denote.Ref.{now}
 use borrow.Author.Tests.{not-true, not-false}
-use Rattle.basis.specs.Test.{_or_, non}
+use Rattle.basis.specs.Test.{non}
 use Rattle.basis.proofs.BoolLaws.{and-holds, and-fails, or-holds, or-fails, non-holds, non-fails}
 use Rattle.format.specs.Shape.{initial}
 use Rattle.content.specs.Content.{eventFits, alone}

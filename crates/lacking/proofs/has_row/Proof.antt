@@ -1,9 +1,9 @@
 -- `lacking::has_row` meets its contract. The invariant: the answer is the answer from row j on. The measure is what is left. Assumes nothing.
 use mathlib.Core.Path.{_≡_, refl, sym, ap, _∙_}
-use Prim.Native.Nat.{_-_, _≤_, _<_}
+use Prim.Native.Nat.{_-_, _≤_}
 use denote.Ref.{now}
 use native.Mathlib.Omega.{arith}
-use lib.ListN.{length, drop}
+use lib.ListN.{drop}
 use Rattle.basis.specs.Test.{any}
 use Rattle.basis.proofs.LoopLaws.{any-at, any-none, any-found, any-more}
 use Rattle.format.specs.Execution.{noRow}

@@ -1,5 +1,5 @@
 -- `lacking::lacks` meets its contract: only an access that reads can lack a row. Assumes nothing.
-use mathlib.Core.Path.{sym, ap, _∙_}
+use mathlib.Core.Path.{sym, _∙_}
 use borrow.Author.Tests.{not-true, not-false}
 use Rattle.basis.proofs.BoolLaws.{and-holds, and-fails}
 use Rattle.format.specs.Shape.{reads}

@@ -1,12 +1,11 @@
 -- `lacking::lacks_from` meets its contract. The invariant: the answer is the answer from byte i on. The measure is what is left. Assumes nothing.
 use mathlib.Core.Path.{_≡_, refl, sym, ap, _∙_}
-use mathlib.Core.Bool.{Bool, true, false}
+use mathlib.Core.Bool.{Bool}
 use mathlib.Core.List.{List}
-use Prim.Native.Nat.{ℕ, _+_, _-_, _≤_, _<_}
+use Prim.Native.Nat.{ℕ, _-_, _≤_}
 use denote.Ref.{now}
 use native.Mathlib.Omega.{arith}
-use borrow.Author.Tests.{not-true, not-false}
-use lib.ListN.{length, drop, getD}
+use lib.ListN.{drop}
 use Rattle.basis.specs.Test.{any, from, non}
 use Rattle.basis.proofs.ListLaws.{from-length, from-at}
 use Rattle.basis.proofs.LoopLaws.{any-none, any-found, any-more}

@@ -1,7 +1,7 @@
 -- `lacking::lowest_lacking` meets its contract. The invariant: the lowest event that lacks a row is the lowest from event i on. The measure is what
 -- is left. Assumes nothing.
 use mathlib.Core.Path.{_≡_, refl, sym, _∙_}
-use Prim.Native.Nat.{_-_, _≤_, _<_, min}
+use Prim.Native.Nat.{_-_, _≤_, min}
 use denote.Ref.{now}
 use native.Mathlib.Omega.{arith}
 use lib.ListN.{length, drop}

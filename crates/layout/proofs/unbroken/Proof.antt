@@ -1,6 +1,5 @@
 use native.Mathlib.Nat.{mod-one}
 -- `layout::unbroken` meets its contract, width by width. Assumes nothing.
-use mathlib.Core.Path.{refl}
 use borrow.Author.Tests.{ne-eqb}
 use Rattle.basis.specs.Test.{_and_, _or_}
 use Rattle.format.specs.Shape.{divides}

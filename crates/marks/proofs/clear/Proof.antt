@@ -1,12 +1,11 @@
 -- `marks::clear` meets its contract: the first i bytes are zero, and the rest is as it was. The measure is what is left. Assumes nothing.
-use mathlib.Core.Path.{_≡_, refl, sym, ap, _∙_}
+use mathlib.Core.Path.{_≡_, refl, ap, _∙_}
 use mathlib.Core.List.{List, _++_}
-use Prim.Native.Nat.{ℕ, _-_, _≤_, _<_, min}
+use Prim.Native.Nat.{ℕ, _-_, _≤_}
 use native.Mathlib.Omega.{arith}
 use borrow.Author.Fill.{fill-none, fill-more}
 use denote.Ref.{now}
 use lib.ListN.{length, set, drop, replicate, length-set}
-use Rattle.marks.specs.Table.{cleared}
 use Rattle.marks.proofs.TableLaws.{cleared-min}
 use Rattle.marks.proofs.clear.Statement.{statement}
 use Rattle.marks.proofs.clear.Tie as tie

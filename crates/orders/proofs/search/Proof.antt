@@ -1,10 +1,8 @@
 -- `orders::search` meets its contract: cleared, walked through, and cleared again. Assumes nothing.
-use mathlib.Core.Path.{_≡_}
 use Prim.Native.Nat.{_-_}
 use native.Mathlib.Omega.{arith}
 use borrow.Author.Needs.{needs}
 use denote.Ref.{now}
-use Rattle.marks.specs.Table.{bytesFor}
 use Rattle.orders.specs.Tables.{tabled}
 use Rattle.orders.proofs.TablesLaws.{gathered}
 use Rattle.orders.proofs.AnswerLaws.{needed-slots, starts, searched}

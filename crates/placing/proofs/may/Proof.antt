@@ -1,12 +1,10 @@
 -- `placing::may` meets its contract: its three tests are the fields of `Free`. Assumes nothing.
-use mathlib.Core.Path.{_≡_, sym, ap, _∙_}
-use Prim.Native.Nat.{ℕ, _%_}
+use mathlib.Core.Path.{sym, _∙_}
 use native.Mathlib.Omega.{arith}
 use borrow.Author.Needs.{needs}
 use borrow.Author.Tests.{not-true, not-false}
-use denote.Ref.{now}
 use Rattle.basis.proofs.BoolLaws.{not-both-ways}
-use Rattle.sets.specs.Mask.{slots, mem}
+use Rattle.sets.specs.Mask.{mem}
 use Rattle.sets.proofs.TellsLaws.{tells-no, tells-map}
 use Rattle.sets.proofs.MaskLaws.{at-slot}
 use Rattle.placing.proofs.may.Statement.{statement}

@@ -1,13 +1,12 @@
 -- `placing::unbarred` meets its contract: `left` has the placed writers of which nothing is known yet. The measure is `left`, which gets
 -- smaller as a number. Assumes nothing.
 use mathlib.Core.Path.{_≡_, sym, ap, _∙_, subst}
-use Prim.Native.Nat.{ℕ, _%_}
 use native.Mathlib.Nat.{mod-eq-of-lt}
 use native.Mathlib.Omega.{arith}
 use borrow.Author.Needs.{needs}
 use borrow.Author.Tests.{not-true, not-false}
 use denote.Ref.{now}
-use Rattle.sets.specs.Mask.{slots, remove}
+use Rattle.sets.specs.Mask.{remove}
 use Rattle.sets.proofs.TellsLaws.{tells-yes, tells-no}
 use Rattle.sets.proofs.MaskLaws.{remove-lt}
 use Rattle.placing.proofs.BarsLaws.{Left, left-start, left-lowest, left-next, left-end}

@@ -1,5 +1,5 @@
 -- `reach::count_sets` meets its contract: cleared, counted, and cleared again. Assumes nothing.
-use mathlib.Core.Path.{_≡_, refl}
+use mathlib.Core.Path.{refl}
 use Prim.Native.Nat.{_-_}
 use native.Mathlib.Omega.{arith}
 use borrow.Author.Needs.{needs}

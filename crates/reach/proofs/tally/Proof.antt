@@ -1,11 +1,11 @@
 -- `reach::tally` meets its contract: where it stands (`Stand`) and what it has counted (`Tally`). With a step on one set less is not marked,
 -- and with a step back the way is shorter. Assumes nothing.
-use mathlib.Core.Path.{_≡_, refl, sym, ap, subst, _∙_}
+use mathlib.Core.Path.{_≡_, refl, _∙_}
 use mathlib.Core.List.{List}
 use Prim.Native.Nat.{ℕ, _≤_, _<_, _-_, _+_, _*_}
 use native.Mathlib.Omega.{arith}
 use denote.Ref.{now}
-use lib.ListN.{length, length-set, take, set}
+use lib.ListN.{length, length-set, take}
 use Rattle.sets.specs.Mask.{full}
 use Rattle.orders.specs.Tables.{tabled}
 use Rattle.orders.proofs.StandLaws.{Stand, left, stand-start, may-enter, stand-on, left-falls, last-event, may-leave, stand-left, entered-at, entered, full-slots}

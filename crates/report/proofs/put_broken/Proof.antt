@@ -1,5 +1,4 @@
 -- `report::put_broken` meets its contract: the pieces are put one after the other. Assumes nothing.
-use native.Mathlib.Omega.{arith}
 use borrow.Author.Needs.{needs}
 use Rattle.answer.specs.NameOf.{namesOf}
 use Rattle.puts.proofs.PutLaws.{puts-then}

@@ -1,7 +1,5 @@
 -- `sets::subset` meets its contract: nothing of a is outside b. Assumes nothing.
-use Prim.Native.Nat.{_-_, _^_}
 use borrow.Author.Tests.{eqb-true, eqb-false}
-use lib.Bits.{bitAnd}
 use Rattle.sets.specs.Mask.{slots}
 use Rattle.sets.proofs.MaskLaws.{within-of, of-within}
 use Rattle.sets.proofs.subset.Statement.{statement}

@@ -1,6 +1,5 @@
 -- `tables::pair` meets its contract, field by field. Assumes nothing.
 use mathlib.Core.Path.{refl}
-use Prim.Native.Nat.{_-_}
 use borrow.Author.Needs.{needs}
 use Rattle.tables.specs.Tables.{pairIn}
 use Rattle.tables.proofs.pair.Statement.{statement}

@@ -3,7 +3,7 @@ use mathlib.Core.Path.{sym, _∙_}
 use denote.Ref.{now}
 use Rattle.sheet.specs.steps.Between.{view}
 use Rattle.parse.proofs.ParseLaws.{known}
-use Rattle.sheet.proofs.BetweenLaws.{ready-next, event-few, event-here, row-few, pair-few, head-taken, event-taken, row-taken, pair-taken}
+use Rattle.sheet.proofs.BetweenLaws.{ready-next, event-few, row-few, pair-few, head-taken, event-taken, row-taken, pair-taken}
 use borrow.Author.Needs.{needs}
 use Rattle.sheet.proofs.reader.after.Statement.{statement}
 use Rattle.sheet.proofs.reader.after.Tie as tie

@@ -1,10 +1,10 @@
 -- `sheet::reader::fields` meets its contract. The invariant: the whole answer is the answer from this place on. The measure is what is left of the
 -- sheet. Assumes nothing.
-use mathlib.Core.Path.{_≡_, sym, ap, _∙_}
+use mathlib.Core.Path.{sym, ap, _∙_}
 use Prim.Native.Nat.{_-_}
 use denote.Ref.{now}
 use native.Mathlib.Omega.{arith}
-use lib.ListN.{length, length-replicate}
+use lib.ListN.{length}
 use Rattle.sheet.proofs.BetweenLaws.{Turn, turn-start, turn-through, turn-fault, turn-ready, turn-next, counted-of, ready-next}
 use borrow.Author.Needs.{needs}
 use Rattle.sheet.proofs.reader.fields.Statement.{statement}

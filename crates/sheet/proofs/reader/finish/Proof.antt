@@ -1,12 +1,11 @@
 -- `sheet::reader::finish` meets its contract, test by test. Assumes nothing.
-use mathlib.Core.Path.{_≡_, sym, ap, _∙_}
+use mathlib.Core.Path.{_≡_, sym}
 use mathlib.Core.Option.{none, some}
 use denote.Ref.{now}
 use native.Mathlib.Omega.{arith}
 use Rattle.basis.specs.Test.{non}
 use Rattle.parse.specs.Parse.{lowestLacking, completed, finish}
 use Rattle.entries.specs.Entries.{execution}
-use Rattle.sheet.specs.steps.Between.{view}
 use Rattle.sheet.proofs.BetweenLaws.{counted-of}
 use Rattle.sheet.proofs.CompleteLaws.{place-found}
 use borrow.Author.Needs.{needs}

@@ -1,7 +1,6 @@
 -- `sheet::reader::read` meets its contract: a sheet too long, a field at fault, a test after all fields, or a whole sheet. Assumes nothing.
-use mathlib.Core.Path.{_≡_, refl, sym, ap, _∙_}
+use mathlib.Core.Path.{refl, sym, _∙_}
 use denote.Ref.{now}
-use native.Mathlib.Omega.{arith}
 use Rattle.parse.proofs.ParseLaws.{too-long}
 use Rattle.sheet.proofs.CompleteLaws.{handed-refusal, handed-whole}
 use borrow.Author.Needs.{needs}

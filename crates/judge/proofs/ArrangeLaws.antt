@@ -1,14 +1,14 @@
 -- The laws of the last step: the search's problem is the model's, so what it finds is the first of all orders that meet the rules.
 -- Assumes nothing.
---     arranged-none, arranged-first     what is answered where the search finds none, and where it finds one
+--     arranged-judged     what the last step answers is what is to be answered
 use mathlib.Core.Path.{_≡_, refl, sym, ap, _∙_, subst}
 use mathlib.Core.Logic.{_↔_, inr}
 use mathlib.Core.Bool.{Bool, true, false}
 use mathlib.Core.List.{List}
-use Prim.Native.Nat.{ℕ, _-_, _*_, _<_, _≤_, min}
+use Prim.Native.Nat.{ℕ, _-_, _<_, _≤_, min}
 use native.Mathlib.Omega.{arith}
 use lib.Dec.{T}
-use lib.ListN.{length, take, replicate}
+use lib.ListN.{length, take}
 use Rattle.basis.proofs.BoolLaws.{true-T, T-true}
 use Rattle.format.specs.Event.{writesAt}
 use Rattle.format.specs.Execution.{Execution, others}
@@ -28,24 +28,22 @@ use Rattle.orders.proofs.OrderLaws.{meets-same, first-same}
 use Rattle.orders.proofs.InitsLaws.{begins-same}
 use Rattle.orders.proofs.AnswerLaws.{ordered-first, ordered-none}
 use Rattle.answer.specs.declared.Names.the-variants.{Nobody}
-use Rattle.answer.specs.declared.Settled.{Settled}
+use Rattle.answer.specs.declared.Answer.{Answer}
 use Rattle.model.specs.Order.{problem}
 use Rattle.model.specs.Rules.{faulty}
-use Rattle.model.specs.Judged.{needed, JudgedBroken, JudgedConsistent}
+use Rattle.model.specs.Judged.{needed, JudgedBroken, JudgedConsistent, Judged}
 use Rattle.model.proofs.Sound.{Sound, sound}
 use Rattle.model.proofs.HappensLaws.{happens-inside, writer-inside}
 use Rattle.model.proofs.BarLaws.{bar-elim, row-bars}
 use Rattle.model.proofs.OrderLaws.{inits-others, begins}
 use Rattle.model.proofs.JudgedLaws.{Admitted, admitted-whole}
-use Rattle.tables.specs.Tables.{rowRoom}
-use Rattle.bars.specs.Bars.{filledIn}
 use Rattle.settle.specs.Settle.{settledIn}
+use Rattle.arrange.specs.Arranged.{barsOf, saidOf, Arranged}
 use Rattle.front.specs.Tabled.{hbOf}
 use Rattle.front.proofs.SheetLaws.{held-bars, held-settled}
 use Rattle.judge.specs.steps.Admitted.{Unbroken}
 
-module _ {s : List ℕ} {k n m : ℕ} {t q succ pred scratch order bars : List ℕ} (u : Unbroken s k n m t q succ pred scratch order)
-    (f : bars ≡ filledIn t (min n slots) succ pred q (min m rowRoom) (replicate (slots * slots) 0)) where
+module _ {s : List ℕ} {k n m : ℕ} {t q succ pred scratch order : List ℕ} (u : Unbroken s k n m t q succ pred scratch order) where
   abbrev X : Execution
   X = u .execution
 
@@ -62,7 +60,7 @@ module _ {s : List ℕ} {k n m : ℕ} {t q succ pred scratch order bars : List �
   few = u .held .tabled .few
 
   abbrev P : Problem
-  P = tabled n pred bars
+  P = tabled n pred (barsOf t n succ pred q m)
 
   abbrev Q : Problem
   Q = problem X (hbOf succ)
@@ -75,13 +73,13 @@ module _ {s : List ℕ} {k n m : ℕ} {t q succ pred scratch order bars : List �
 
   bars-same : (r w v : ℕ) → P .Bar r w v ↔ Q .Bar r w v
   bars-same r w v = (
-    (λ b. let z = few in let i = b .0 in let j = b .1 in true-T _ (sym (held-bars (u .held) so f r w v (omega arith) (omega arith)) ∙ b .2)),
+    (λ b. let z = few in let i = b .0 in let j = b .1 in true-T _ (sym (held-bars (u .held) so refl r w v (omega arith) (omega arith)) ∙ b .2)),
     (λ h.
         let b = bar-elim X (hbOf succ) r w v h in
         let z = few in
         let i : w < n = rw events at (subst (λ (j : ℕ). j < length (X .events)) (b .3) (writer-inside X so (b .0) (b .1))) in
         let j : v < n = rw events at (event-inside X (λ e. T (writesAt e (b .0 .address))) (λ y. subst T (writesAt-nobody (b .0 .address)) y) v (row-bars X (hbOf succ) (b .0) v (b .4) .writes)) in
-        (j, i, held-bars (u .held) so f r w v (omega arith) (omega arith) ∙ T-true _ h)),
+        (j, i, held-bars (u .held) so refl r w v (omega arith) (omega arith) ∙ T-true _ h)),
   )
 
   room : n - k ≡ others (X .events)
@@ -95,15 +93,15 @@ module _ {s : List ℕ} {k n m : ℕ} {t q succ pred scratch order bars : List �
       begins-same P Q k (sym events) before-same bars-same
       (subst (λ (i : ℕ). Begins Q i) (sym (u .starts)) (begins X (hbOf succ) so (u .held .tests)))
 
-  module _ {r : Bool} {scratch′ order′ : List ℕ} (a : Answered k n pred bars scratch order r scratch′ order′) where
+  module _ {r : Bool} {scratch′ order′ : List ℕ} (a : Answered k n pred (barsOf t n succ pred q m) scratch order r scratch′ order′) where
     abbrev o : orders.Ordered P k scratch order r scratch′ order′
     o = a .fit fits (rw events at (ad .order))
 
     cleaned : scratch′ ≡ cleared (needed X) scratch
     cleaned = o .clean ∙ ap (λ (i : ℕ). cleared (bytesFor i) scratch) room
 
-    pub arranged-none : r ≡ false → JudgedBroken s scratch order (faulty 26 Nobody) scratch′ order′
-    arranged-none z =
+    no-order : r ≡ false → JudgedBroken s scratch order (faulty 26 Nobody) scratch′ order′
+    no-order z =
         record {
           execution = X;
           describes = u .describes;
@@ -114,8 +112,8 @@ module _ {s : List ℕ} {k n m : ℕ} {t q succ pred scratch order bars : List �
           order-kept = o .kept z;
         }
 
-    pub arranged-first : r ≡ true → {settled : Settled} → settled ≡ settledIn t succ (min n slots) → JudgedConsistent s scratch order settled scratch′ order′
-    arranged-first z e =
+    an-order : r ≡ true → JudgedConsistent s scratch order (settledIn t succ (min n slots)) scratch′ order′
+    an-order z =
         let w = ordered-first the-begins o z in
         record {
           execution = X;
@@ -124,7 +122,15 @@ module _ {s : List ℕ} {k n m : ℕ} {t q succ pred scratch order bars : List �
           tests = u .held .tests;
           unbroken = u .kept;
           first = subst (λ (i : ℕ). FirstOf (Meets Q) (take i order′)) (sym events) (first-same P Q events before-same bars-same (take n order′) (w .0));
-          pair = e ∙ held-settled (u .held);
+          pair = held-settled (u .held);
           scratch-cleared = cleaned;
           order-rest = rw events (w .1);
         }
+
+  pub arranged-judged : {r : Answer} {scratch′ order′ : List ℕ} → Arranged k n m t q succ pred scratch order r scratch′ order′
+      → Judged s scratch order r scratch′ order′
+  arranged-judged {r} {scratch′} {order′} a = subst (λ (z : Answer). Judged s scratch order z scratch′ order′) (sym (a .says)) (go (a .found) refl)
+    where
+      go : (b : Bool) → a .found ≡ b → Judged s scratch order (saidOf (a .found) (settledIn t succ (min n slots))) scratch′ order′
+      go true e = rw e (an-order (a .searched) e)
+      go false e = rw e (no-order (a .searched) e)

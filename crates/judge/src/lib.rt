@@ -1,6 +1,5 @@
 // The judge: a sheet, a lent scratch and a lent order buffer become an answer. Each step is a crate of its own.
 use answer::Answer;
-use answer::Names;
 use answer::Rule;
 use entries::Counts;
 use sets::SLOTS;
@@ -10,36 +9,7 @@ use tables::PAIR_CELLS;
 use tables::ROW_CELLS;
 ghost use Rattle.sheet.specs.Handed.{HandedWhole};
 ghost use Rattle.model.specs.Judged.{Judged};
-ghost use Rattle.judge.specs.steps.Admitted.{Admits, Unbroken};
-
-// How many masks of bars there are: one for each V and W.
-const BARS: usize = SLOTS * SLOTS;
-
-// The last step, where no rule of 21 to 25 is broken: the first order, or 26.
-fn arrange(
-    s: &[u8],
-    inits: usize,
-    events: usize,
-    rows: usize,
-    t: &[u8; COLUMNS],
-    q: &[u8; ROW_CELLS],
-    succ: &[u32; SLOTS],
-    pred: &[u32; SLOTS],
-    scratch: &mut [u8],
-    order: &mut [u8],
-) -> Answer
-    requires { ⌜ Unbroken (now s) inits events rows (now t) (now q) (now succ) (now pred) (now scratch) (now order) ⌝ }
-    ensures { λ r. ⌜ Judged (now (s .entry)) (now (scratch .entry)) (now (order .entry)) r (now (scratch .exit)) (now (order .exit)) ⌝ }
-{
-    let mut bars = [0u32; BARS];
-    bars::fill(t, events, succ, pred, q, rows, &mut bars);
-    let found = orders::first(inits, events, pred, &bars, scratch, order);
-    if !found {
-        return Answer::Broken(26, Names::Nobody);
-    }
-    let settled = settle::settle(t, succ, events);
-    Answer::Consistent(settled)
-}
+ghost use Rattle.judge.specs.steps.Admitted.{Admits};
 
 // The rules 21 to 25 on tables filled from the sheet, and then the last step.
 fn weigh(
@@ -70,7 +40,9 @@ fn weigh(
             marks::clear(scratch, need);
             Answer::Broken(n, names)
         }
-        Rule::Kept => arrange(s, inits, events, rows, &t, &q, &succ, &pred, scratch, order),
+        Rule::Kept => {
+            arrange::arrange(inits, events, rows, &t, &q, &succ, &pred, scratch, order)
+        }
     }
 }
 

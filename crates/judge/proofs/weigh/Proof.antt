@@ -1,5 +1,6 @@
 -- `judge::weigh` meets its contract: a rule of 21 to 25, or the last step. Assumes nothing.
 use Rattle.judge.proofs.JudgeLaws.{unbroken-of, broken-rule}
+use Rattle.judge.proofs.ArrangeLaws.{arranged-judged}
 use borrow.Author.Needs.{needs}
 use Rattle.judge.proofs.weigh.Statement.{statement}
 use Rattle.judge.proofs.weigh.Tie as tie
@@ -50,7 +51,7 @@ enum-told : tie.Need-enum-told
 enum-told c = search needs
 
 arrange-requires : tie.Need-arrange-requires
-arrange-requires c κs = unbroken-of (c .before .before .before .before .before .before .before .before .before .before .before .before .before .before .before .before .before .before .before .before .before .before .before .before .before .before .before .before .before .before .before .before .before .before .before .before .pre) (c .before .before .before .before .before .before .before .before .before .before .before .before .before .before .before .before .before .before .before .before .before .before .before .before .fill .ensures) (c .before .before .before .before .before .before .before .before .before .before .before .before .before .before .before .fill2 .ensures) (c .before .before .before .before .before .before .before .before .first-broken .ensures) (c .before .before .before .before .before .before .enum-told .given .1)
+arrange-requires c κs = search needs
 
 same-length : tie.Need-same-length
 same-length c = search needs
@@ -65,7 +66,7 @@ same-length-3 : tie.Need-same-length-3
 same-length-3 c = search needs
 
 returns-2 : tie.Need-returns-2
-returns-2 c = search needs
+returns-2 c = arranged-judged (unbroken-of (c .before .before .before .before .before .before .before .before .before .before .before .before .before .before .before .before .before .before .before .before .before .before .before .before .before .before .before .before .before .before .before .before .before .before .before .before .before .before .before .before .before .pre) (c .before .before .before .before .before .before .before .before .before .before .before .before .before .before .before .before .before .before .before .before .before .before .before .before .before .before .before .before .before .fill .ensures) (c .before .before .before .before .before .before .before .before .before .before .before .before .before .before .before .before .before .before .before .before .fill2 .ensures) (c .before .before .before .before .before .before .before .before .before .before .before .before .before .first-broken .ensures) (c .before .before .before .before .before .before .before .before .before .before .before .enum-told .given .1)) (c .before .before .before .before .arrange .ensures)
 
 pub weigh-spec : {M : Type 1} → statement M
 weigh-spec =

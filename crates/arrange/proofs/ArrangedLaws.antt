@@ -1,0 +1,32 @@
+-- The laws of specs/Arranged.antt. Assumes nothing.
+--     arranged-none, arranged-some     how the code's answers are made
+--     arranged-unique                  two conforming answers are equal, both buffers too
+use mathlib.Core.Path.{_≡_, sym, ap, _∙_, subst}
+use mathlib.Core.Bool.{Bool, true, false}
+use mathlib.Core.List.{List}
+use Prim.Native.Nat.{ℕ, min}
+use Rattle.sets.specs.Mask.{slots}
+use Rattle.orders.specs.Answer.{Answered}
+use Rattle.orders.proofs.AnswerLaws.{answered-unique}
+use Rattle.answer.specs.declared.Answer.{Answer}
+use Rattle.answer.specs.declared.Answer.the-variants.{Broken, Consistent}
+use Rattle.answer.specs.declared.Names.the-variants.{Nobody}
+use Rattle.answer.specs.declared.Settled.{Settled}
+use Rattle.settle.specs.Settle.{settledIn}
+use Rattle.arrange.specs.Arranged.{barsOf, saidOf, Arranged}
+
+module _ {k n m : ℕ} {t q succ pred scratch order bars : List ℕ} (f : bars ≡ barsOf t n succ pred q m) {found : Bool} {scratch′ order′ : List ℕ}
+    (a : Answered k n pred bars scratch order found scratch′ order′) where
+  pub arranged-none : found ≡ false → Arranged k n m t q succ pred scratch order (Broken 26 Nobody) scratch′ order′
+  arranged-none e = record { found = found; searched = subst (λ (b : List ℕ). Answered k n pred b scratch order found scratch′ order′) f a; says = ap (λ (b : Bool). saidOf b (settledIn t succ (min n slots))) (sym e) }
+
+  pub arranged-some : found ≡ true → {settled : Settled} → settled ≡ settledIn t succ (min n slots)
+      → Arranged k n m t q succ pred scratch order (Consistent settled) scratch′ order′
+  arranged-some e {settled} p =
+      record { found = found; searched = subst (λ (b : List ℕ). Answered k n pred b scratch order found scratch′ order′) f a; says = ap (λ (z : Settled). Consistent z) p ∙ ap (λ (b : Bool). saidOf b (settledIn t succ (min n slots))) (sym e) }
+
+pub arranged-unique : {k n m : ℕ} {t q succ pred scratch order : List ℕ} {r a : Answer} {s s′ o o′ : List ℕ}
+    → Arranged k n m t q succ pred scratch order r s o → Arranged k n m t q succ pred scratch order a s′ o′ → (r ≡ a) × (s ≡ s′) × (o ≡ o′)
+arranged-unique {n = n} {t = t} {succ = succ} x y =
+    let u = answered-unique (x .found) (y .found) (x .searched) (y .searched) in
+    (x .says ∙ ap (λ (b : Bool). saidOf b (settledIn t succ (min n slots))) (u .0) ∙ sym (y .says), u .1, u .2)

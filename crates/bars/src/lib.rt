@@ -163,7 +163,7 @@ fn add(
 {
     let m = least(n, ROWS);
     for j in 0..m {
-        let r = tables::row(q, j);
+        let r = rows::row(q, j);
         let barred = of_row(t, eq, succ, pred, r);
         spread(bars, barred, r.writer as usize, r.reader as usize);
     }

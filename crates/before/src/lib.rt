@@ -133,7 +133,7 @@ fn add_rows(t: &[u8; COLUMNS], q: &[u8; ROW_CELLS], n: usize, succ: &mut [u32])
 {
     let m = least(n, ROWS);
     for j in 0..m {
-        add_row(t, tables::row(q, j), succ);
+        add_row(t, rows::row(q, j), succ);
     }
 }
 
@@ -150,7 +150,7 @@ fn add_pairs(p: &[u8; PAIR_CELLS], n: usize, succ: &mut [u32])
 {
     let m = least(n, PAIRS);
     for j in 0..m {
-        add_pair(tables::pair(p, j), succ);
+        add_pair(rows::pair(p, j), succ);
     }
 }
 

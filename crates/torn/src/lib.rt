@@ -45,7 +45,7 @@ fn sources(t: &[u8; COLUMNS], q: &[u8; ROW_CELLS], n: usize, masks: &mut [u32])
 {
     let m = least(n, ROWS);
     for j in 0..m {
-        note_row(t, tables::row(q, j), masks);
+        note_row(t, rows::row(q, j), masks);
     }
 }
 

@@ -1,9 +1,9 @@
--- `tables::pair` meets its contract, field by field. Assumes nothing.
+-- `rows::pair` meets its contract, field by field. Assumes nothing.
 use mathlib.Core.Path.{refl}
 use borrow.Author.Needs.{needs}
 use Rattle.tables.specs.Tables.{pairIn}
-use Rattle.tables.proofs.pair.Statement.{statement}
-use Rattle.tables.proofs.pair.Tie as tie
+use Rattle.rows.proofs.pair.Statement.{statement}
+use Rattle.rows.proofs.pair.Tie as tie
 
 element-copy-out-t6 : tie.Need-element-copy-out-t6
 element-copy-out-t6 c = search needs

@@ -71,7 +71,7 @@ fn writes_byte(t: &[u8; COLUMNS], v: usize, a: u8) -> bool
     ensures { λ r. ⌜ r ≡ writesIn (now (t .entry)) (v % slots) a ⌝ }
 {
     let b = tables::at(t, v, a);
-    access::covers(b, a) & access::writes(b)
+    ranges::covers(b, a) & access::writes(b)
 }
 
 // The least member of a set that writes the flat byte; 32 where none does.

@@ -1,7 +1,7 @@
 // The tables that every step of the judge works on, in arrays of fixed length: their lengths, and what stands in that of accesses; rows and pairs
 // are read by crates/rows. No function has a `requires`: an event counts by its place among 32, a slot by its place among 64.
-use access::covers;
 use format::Shape;
+use ranges::covers;
 ghost use mathlib.Core.Path.{_≡_};
 ghost use Prim.Native.Nat.{_%_};
 ghost use Rattle.sets.specs.Mask.{slots};

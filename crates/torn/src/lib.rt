@@ -25,7 +25,7 @@ fn untorn(t: &[u8; COLUMNS], r: Row) -> bool
 {
     let a = tables::shape(t, tables::slot_at(t, r.reader as usize, r.address));
     let b = tables::shape(t, tables::slot_at(t, r.writer as usize, r.address));
-    access::tear_free(a) & (access::tear_free(b) & access::equal(a, b))
+    access::tear_free(a) & (access::tear_free(b) & ranges::equal(a, b))
 }
 
 // The mask of the reader's access gains the writer, where the row is untorn.

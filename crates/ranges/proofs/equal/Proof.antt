@@ -1,9 +1,9 @@
--- `access::equal` meets its contract by computation. Assumes nothing.
+-- `ranges::equal` meets its contract by computation. Assumes nothing.
 use mathlib.Core.Path.{refl}
 use Rattle.basis.specs.Test.{_and_}
 use Rattle.format.specs.Shape.{equal}
-use Rattle.access.proofs.equal.Statement.{statement}
-use Rattle.access.proofs.equal.Tie as tie
+use Rattle.ranges.proofs.equal.Statement.{statement}
+use Rattle.ranges.proofs.equal.Tie as tie
 
 returns : tie.Need-returns
 unfolding equal _and_

@@ -1,9 +1,9 @@
--- `access::both_sc` meets its contract, test by test. Assumes nothing.
+-- `ranges::both_sc` meets its contract, test by test. Assumes nothing.
 use Rattle.basis.specs.Test.{_and_}
 use Rattle.format.specs.Shape.{bothSc}
 use borrow.Author.Needs.{needs}
-use Rattle.access.proofs.both_sc.Statement.{statement}
-use Rattle.access.proofs.both_sc.Tie as tie
+use Rattle.ranges.proofs.both_sc.Statement.{statement}
+use Rattle.ranges.proofs.both_sc.Tie as tie
 
 sc-requires : tie.Need-sc-requires
 sc-requires c κs = search needs

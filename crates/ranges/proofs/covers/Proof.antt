@@ -1,10 +1,10 @@
--- `access::covers` meets its contract by computation. Assumes nothing.
+-- `ranges::covers` meets its contract by computation. Assumes nothing.
 use mathlib.Core.Path.{refl}
 use Rattle.basis.specs.Test.{_and_}
 use Rattle.format.specs.Shape.{covers}
 use borrow.Author.Needs.{needs}
-use Rattle.access.proofs.covers.Statement.{statement}
-use Rattle.access.proofs.covers.Tie as tie
+use Rattle.ranges.proofs.covers.Statement.{statement}
+use Rattle.ranges.proofs.covers.Tie as tie
 
 cast-result : tie.Need-cast-result
 cast-result c = search needs

@@ -1,10 +1,10 @@
--- `access::overlap` meets its contract by computation. Assumes nothing.
+-- `ranges::overlap` meets its contract by computation. Assumes nothing.
 use mathlib.Core.Path.{refl}
 use Rattle.basis.specs.Test.{_and_}
 use Rattle.format.specs.Shape.{overlap}
 use borrow.Author.Needs.{needs}
-use Rattle.access.proofs.overlap.Statement.{statement}
-use Rattle.access.proofs.overlap.Tie as tie
+use Rattle.ranges.proofs.overlap.Statement.{statement}
+use Rattle.ranges.proofs.overlap.Tie as tie
 
 cast-a-end : tie.Need-cast-a-end
 cast-a-end c = search needs

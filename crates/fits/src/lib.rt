@@ -76,7 +76,7 @@ fn row_rises(s: &[u8], x: Counts, r: Row) -> bool
     if n == 0 {
         return true;
     }
-    content::row_below(entries::row_no(s, x, n - 1), r)
+    limits::row_below(entries::row_no(s, x, n - 1), r)
 }
 
 // A row, behind the rows so far.
@@ -97,7 +97,7 @@ fn pair_rises(s: &[u8], x: Counts, p: Pair) -> bool
     if n == 0 {
         return true;
     }
-    content::pair_below(entries::pair_no(s, x, n - 1), p)
+    limits::pair_below(entries::pair_no(s, x, n - 1), p)
 }
 
 // A pair, behind the pairs so far.

@@ -36,7 +36,7 @@ fn head_fault(v: &[u8]) -> u8
     if !long {
         return 4;
     }
-    let fits = content::head_fits(layout::head_of(edition, v));
+    let fits = limits::head_fits(layout::head_of(edition, v));
     if !fits {
         return 5;
     }
@@ -62,7 +62,7 @@ fn event_fault(s: &[u8], x: Counts, at: &[u16], v: &[u8]) -> u8
     if !exact {
         return 4;
     }
-    let room = content::room_for(x.inits, x.events - x.inits, agent);
+    let room = limits::room_for(x.inits, x.events - x.inits, agent);
     if !room {
         return 9;
     }

@@ -1,9 +1,9 @@
--- `content::head_fits` meets its contract, test by test. Assumes nothing.
+-- `limits::head_fits` meets its contract, test by test. Assumes nothing.
 use Rattle.basis.specs.Test.{_and_}
 use Rattle.content.specs.Content.{headFits}
 use borrow.Author.Needs.{needs}
-use Rattle.content.proofs.head_fits.Statement.{statement}
-use Rattle.content.proofs.head_fits.Tie as tie
+use Rattle.limits.proofs.head_fits.Statement.{statement}
+use Rattle.limits.proofs.head_fits.Tie as tie
 
 within-requires : tie.Need-within-requires
 within-requires c κs = search needs

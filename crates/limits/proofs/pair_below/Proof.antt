@@ -1,9 +1,9 @@
--- `content::pair_below` meets its contract by computation. Assumes nothing.
+-- `limits::pair_below` meets its contract by computation. Assumes nothing.
 use mathlib.Core.Path.{refl}
 use Rattle.basis.specs.Test.{_and_, _or_}
 use Rattle.format.specs.Execution.{pairBelow}
-use Rattle.content.proofs.pair_below.Statement.{statement}
-use Rattle.content.proofs.pair_below.Tie as tie
+use Rattle.limits.proofs.pair_below.Statement.{statement}
+use Rattle.limits.proofs.pair_below.Tie as tie
 
 returns : tie.Need-returns
 unfolding pairBelow _and_ _or_

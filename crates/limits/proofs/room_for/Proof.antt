@@ -1,8 +1,8 @@
--- `content::room_for` meets its contract, by the agent. Assumes nothing.
+-- `limits::room_for` meets its contract, by the agent. Assumes nothing.
 use borrow.Author.Tests.{ne-eqb}
 use Rattle.content.specs.Content.{roomIn}
-use Rattle.content.proofs.room_for.Statement.{statement}
-use Rattle.content.proofs.room_for.Tie as tie
+use Rattle.limits.proofs.room_for.Statement.{statement}
+use Rattle.limits.proofs.room_for.Tie as tie
 
 returns : tie.Need-returns
 unfolding roomIn

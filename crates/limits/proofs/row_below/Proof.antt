@@ -1,9 +1,9 @@
--- `content::row_below` meets its contract by computation. Assumes nothing.
+-- `limits::row_below` meets its contract by computation. Assumes nothing.
 use mathlib.Core.Path.{refl}
 use Rattle.basis.specs.Test.{_and_, _or_}
 use Rattle.format.specs.Execution.{rowBelow}
-use Rattle.content.proofs.row_below.Statement.{statement}
-use Rattle.content.proofs.row_below.Tie as tie
+use Rattle.limits.proofs.row_below.Statement.{statement}
+use Rattle.limits.proofs.row_below.Tie as tie
 
 returns : tie.Need-returns
 unfolding rowBelow _and_ _or_

@@ -1,8 +1,8 @@
--- `layout::event_bytes` meets its contract by computation. Assumes nothing.
+-- `sizes::event_bytes` meets its contract by computation. Assumes nothing.
 use mathlib.Core.Path.{refl}
 use Rattle.format.specs.Layout.{eventBytes}
-use Rattle.layout.proofs.event_bytes.Statement.{statement}
-use Rattle.layout.proofs.event_bytes.Tie as tie
+use Rattle.sizes.proofs.event_bytes.Statement.{statement}
+use Rattle.sizes.proofs.event_bytes.Tie as tie
 
 returns : tie.Need-returns
 unfolding eventBytes

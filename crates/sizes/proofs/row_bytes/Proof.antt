@@ -1,8 +1,8 @@
--- `layout::row_bytes` meets its contract by computation. Assumes nothing.
+-- `sizes::row_bytes` meets its contract by computation. Assumes nothing.
 use mathlib.Core.Path.{refl}
 use Rattle.format.specs.Layout.{rowBytes}
-use Rattle.layout.proofs.row_bytes.Statement.{statement}
-use Rattle.layout.proofs.row_bytes.Tie as tie
+use Rattle.sizes.proofs.row_bytes.Statement.{statement}
+use Rattle.sizes.proofs.row_bytes.Tie as tie
 
 returns : tie.Need-returns
 unfolding rowBytes

@@ -1,9 +1,9 @@
--- `layout::data_bytes` meets its contract, kind by kind. Assumes nothing.
+-- `sizes::data_bytes` meets its contract, kind by kind. Assumes nothing.
 use borrow.Author.Tests.{ne-eqb}
 use Rattle.format.specs.Layout.{dataBytes}
 use borrow.Author.Needs.{needs}
-use Rattle.layout.proofs.data_bytes.Statement.{statement}
-use Rattle.layout.proofs.data_bytes.Tie as tie
+use Rattle.sizes.proofs.data_bytes.Statement.{statement}
+use Rattle.sizes.proofs.data_bytes.Tie as tie
 
 cast-width : tie.Need-cast-width
 cast-width c = search needs

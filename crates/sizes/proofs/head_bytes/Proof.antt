@@ -1,8 +1,8 @@
--- `layout::head_bytes` meets its contract by computation. Assumes nothing.
+-- `sizes::head_bytes` meets its contract by computation. Assumes nothing.
 use mathlib.Core.Path.{refl}
 use Rattle.format.specs.Layout.{headBytes}
-use Rattle.layout.proofs.head_bytes.Statement.{statement}
-use Rattle.layout.proofs.head_bytes.Tie as tie
+use Rattle.sizes.proofs.head_bytes.Statement.{statement}
+use Rattle.sizes.proofs.head_bytes.Tie as tie
 
 returns : tie.Need-returns
 unfolding headBytes

@@ -116,7 +116,7 @@ fn only(test: bool, m: u32) -> u32
 fn reasons(a: Shape, b: Shape, as_a: u32, as_b: u32, wr: bool, before: u32, after: u32) -> u32
     ensures { λ r. ⌜ r ≡ reasonsIn a b as_a as_b wr before after ⌝ }
 {
-    let x = only(access::both_sc(b, a), as_a);
+    let x = only(ranges::both_sc(b, a), as_a);
     let y = only(wr & access::sc(b), as_b & before);
     let z = only(wr & access::sc(a), as_a & after);
     x | (y | z)
@@ -163,7 +163,7 @@ fn add(
 {
     let m = least(n, ROWS);
     for j in 0..m {
-        let r = tables::row(q, j);
+        let r = rows::row(q, j);
         let barred = of_row(t, eq, succ, pred, r);
         spread(bars, barred, r.writer as usize, r.reader as usize);
     }

@@ -32,7 +32,7 @@ fn meets(t: &[u8; COLUMNS], e: usize, d: usize) -> bool
     let j = 2 * (d % SLOTS);
     let a = tables::shape(t, i);
     let c = tables::shape(t, j);
-    if access::overlap(a, c) {
+    if ranges::overlap(a, c) {
         return true;
     }
     let b = tables::shape(t, i + 1);
@@ -40,7 +40,7 @@ fn meets(t: &[u8; COLUMNS], e: usize, d: usize) -> bool
     if (b.width == 0) & (f.width == 0) {
         return false;
     }
-    access::overlap(a, f) | (access::overlap(b, c) | access::overlap(b, f))
+    ranges::overlap(a, f) | (ranges::overlap(b, c) | ranges::overlap(b, f))
 }
 
 // Is d another event that e meets?
@@ -114,7 +114,7 @@ fn syncs(t: &[u8; COLUMNS], r: Row) -> bool
     if !access::sc(w) {
         return false;
     }
-    access::both_sc(w, tables::at(t, r.reader as usize, r.address))
+    ranges::both_sc(w, tables::at(t, r.reader as usize, r.address))
 }
 
 // The row's writer leads to its reader, where the two synchronise.
@@ -133,7 +133,7 @@ fn add_rows(t: &[u8; COLUMNS], q: &[u8; ROW_CELLS], n: usize, succ: &mut [u32])
 {
     let m = least(n, ROWS);
     for j in 0..m {
-        add_row(t, tables::row(q, j), succ);
+        add_row(t, rows::row(q, j), succ);
     }
 }
 
@@ -150,7 +150,7 @@ fn add_pairs(p: &[u8; PAIR_CELLS], n: usize, succ: &mut [u32])
 {
     let m = least(n, PAIRS);
     for j in 0..m {
-        add_pair(tables::pair(p, j), succ);
+        add_pair(rows::pair(p, j), succ);
     }
 }
 

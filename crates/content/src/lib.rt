@@ -1,26 +1,15 @@
-// The content of a field by itself: a test for each sentence of 01 that asks for nothing but the field. Reader and writer use them.
+// The content of an event by itself: a test for each sentence of 01 that asks for nothing but the event and the head. Reader and writer use them. Of the other
+// fields: crates/limits.
 use format::Head;
-use format::MAX_AGENTS;
-use format::MAX_INITS;
 use format::MAX_MEMORY;
-use format::MAX_OTHERS;
-use format::Pair;
-use format::Row;
 use format::Shape;
 ghost use mathlib.Core.Path.{_≡_};
-ghost use Rattle.format.specs.Execution.{rowBelow, pairBelow};
-ghost use Rattle.content.specs.Content.{within, headFits, inside, initFormed, sized, kindFits, otherFormed, formed, alone, roomIn};
+ghost use Rattle.content.specs.Content.{within, inside, initFormed, sized, kindFits, otherFormed, formed, alone};
 
 pub fn within(lo: u8, hi: u8, n: u8) -> bool
     ensures { λ r. ⌜ r ≡ within lo hi n ⌝ }
 {
     (lo <= n) & (n <= hi)
-}
-
-pub fn head_fits(h: Head) -> bool
-    ensures { λ r. ⌜ r ≡ headFits h ⌝ }
-{
-    (h.edition == 1) & (within(1, MAX_AGENTS, h.agents) & within(1, MAX_MEMORY, h.size))
 }
 
 fn inside(size: u8, a: Shape) -> bool
@@ -83,26 +72,4 @@ pub fn alone(h: Head, agent: u8, a: Shape) -> bool
     ensures { λ r. ⌜ r ≡ alone h agent a ⌝ }
 {
     inside(h.size, a) & formed(h.agents, agent, a)
-}
-
-// Is there room for an event of the agent behind so many inits and so many others?
-pub fn room_for(inits: u8, others: u8, agent: u8) -> bool
-    ensures { λ r. ⌜ r ≡ roomIn inits others agent ⌝ }
-{
-    match agent {
-        0 => inits < MAX_INITS,
-        _ => others < MAX_OTHERS,
-    }
-}
-
-pub fn row_below(q: Row, r: Row) -> bool
-    ensures { λ y. ⌜ y ≡ rowBelow q r ⌝ }
-{
-    (q.reader < r.reader) | ((q.reader == r.reader) & (q.address < r.address))
-}
-
-pub fn pair_below(q: Pair, p: Pair) -> bool
-    ensures { λ y. ⌜ y ≡ pairBelow q p ⌝ }
-{
-    (q.first < p.first) | ((q.first == p.first) & (q.second < p.second))
 }

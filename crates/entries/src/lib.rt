@@ -6,7 +6,7 @@ use format::Row;
 use format::Shape;
 use format::field;
 use format::field::FIELD_BYTES;
-use layout::PAIR_BYTES;
+use sizes::PAIR_BYTES;
 ghost use mathlib.Core.Path.{_≡_};
 ghost use Prim.Native.Nat.{_+_, _*_, min};
 ghost use lib.ListN.{length, getD};
@@ -57,7 +57,7 @@ pub fn shape_at(s: &[u8], edition: u8, at: u16) -> Shape
     ensures { λ r. ⌜ r ≡ shapeOf edition (restAt (now (s .entry)) at) ⌝ }
 {
     let start = at as usize + FIELD_BYTES;
-    let end = start + layout::event_bytes(edition) as usize;
+    let end = start + sizes::event_bytes(edition) as usize;
     if end <= s.len() {
         return layout::shape_of(edition, &s[start..end]);
     }
@@ -68,7 +68,7 @@ pub fn shape_at(s: &[u8], edition: u8, at: u16) -> Shape
 fn row_at(x: Counts, j: u16) -> u32
     ensures { λ r. ⌜ r ≡ x .«rows_at» + j * rowGap (x .head .edition) ⌝ }
 {
-    let gap = FIELD_BYTES as u32 + layout::row_bytes(x.head.edition) as u32;
+    let gap = FIELD_BYTES as u32 + sizes::row_bytes(x.head.edition) as u32;
     x.rows_at as u32 + j as u32 * gap
 }
 
@@ -79,7 +79,7 @@ pub fn row_no(s: &[u8], x: Counts, j: u16) -> Row
     let edition = x.head.edition;
     let p = row_at(x, j);
     let start = p as usize + FIELD_BYTES;
-    let end = start + layout::row_bytes(edition) as usize;
+    let end = start + sizes::row_bytes(edition) as usize;
     if end <= s.len() {
         return layout::row_of(edition, &s[start..end]);
     }

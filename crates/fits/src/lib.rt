@@ -45,7 +45,7 @@ fn blocked(s: &[u8], x: Counts, at: &[u16], a: Shape) -> bool
     while i < n {
         let p = at[i as usize];
         let no_init = !(entries::agent_at(s, p) == 0);
-        let hit = no_init | access::overlap(a, entries::shape_at(s, edition, p));
+        let hit = no_init | ranges::overlap(a, entries::shape_at(s, edition, p));
         if hit {
             return true;
         }
@@ -76,7 +76,7 @@ fn row_rises(s: &[u8], x: Counts, r: Row) -> bool
     if n == 0 {
         return true;
     }
-    content::row_below(entries::row_no(s, x, n - 1), r)
+    limits::row_below(entries::row_no(s, x, n - 1), r)
 }
 
 // A row, behind the rows so far.
@@ -85,8 +85,8 @@ pub fn row_fits(s: &[u8], x: Counts, at: &[u16], r: Row) -> bool
 {
     let a = shape_no(s, x, at, r.reader);
     let b = shape_no(s, x, at, r.writer);
-    let reads = access::covers(a, r.address) & access::reads(a);
-    let writes = access::covers(b, r.address) & access::writes(b);
+    let reads = ranges::covers(a, r.address) & access::reads(a);
+    let writes = ranges::covers(b, r.address) & access::writes(b);
     (reads & (writes & !(r.reader == r.writer))) & row_rises(s, x, r)
 }
 
@@ -97,7 +97,7 @@ fn pair_rises(s: &[u8], x: Counts, p: Pair) -> bool
     if n == 0 {
         return true;
     }
-    content::pair_below(entries::pair_no(s, x, n - 1), p)
+    limits::pair_below(entries::pair_no(s, x, n - 1), p)
 }
 
 // A pair, behind the pairs so far.

@@ -60,7 +60,7 @@ fn past(start: u8, a: u8) -> u8
 fn data_at(edition: u8, p: u16, b: Shape, a: u8) -> u32
     ensures { λ r. ⌜ r ≡ dataAt edition p b a ⌝ }
 {
-    p as u32 + FIELD_BYTES as u32 + layout::event_bytes(edition) as u32 + past(b.start, a) as u32
+    p as u32 + FIELD_BYTES as u32 + sizes::event_bytes(edition) as u32 + past(b.start, a) as u32
 }
 
 // How much of its data stands before what an access wrote.

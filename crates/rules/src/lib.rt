@@ -25,7 +25,7 @@ fn unlike(q: &[u8; ROW_CELLS], n: usize) -> usize
     let m = least(n, ROWS);
     let mut j: usize = 0;
     while j < m {
-        if tables::seen(q, j) != tables::wrote(q, j) {
+        if rows::seen(q, j) != rows::wrote(q, j) {
             return j;
         }
         j += 1;
@@ -55,7 +55,7 @@ fn turned(q: &[u8; ROW_CELLS], n: usize, succ: &[u32; SLOTS]) -> usize
     let m = least(n, ROWS);
     let mut j: usize = 0;
     while j < m {
-        let r = tables::row(q, j);
+        let r = rows::row(q, j);
         if sets::has(succ[r.reader as usize % SLOTS], r.writer as usize) {
             return j;
         }
@@ -71,7 +71,7 @@ fn writes_byte(t: &[u8; COLUMNS], v: usize, a: u8) -> bool
     ensures { λ r. ⌜ r ≡ writesIn (now (t .entry)) (v % slots) a ⌝ }
 {
     let b = tables::at(t, v, a);
-    access::covers(b, a) & access::writes(b)
+    ranges::covers(b, a) & access::writes(b)
 }
 
 // The least member of a set that writes the flat byte; 32 where none does.
@@ -112,7 +112,7 @@ fn over(
     let m = least(n, ROWS);
     let mut j: usize = 0;
     while j < m {
-        let v = between(t, succ, pred, tables::row(q, j));
+        let v = between(t, succ, pred, rows::row(q, j));
         if v < SLOTS {
             return j;
         }
@@ -128,7 +128,7 @@ fn rule21(q: &[u8; ROW_CELLS], n: usize) -> Rule
 {
     let j = unlike(q, n);
     if j < least(n, ROWS) {
-        let r = tables::row(q, j);
+        let r = rows::row(q, j);
         return Rule::Breach(21, Names::Row(r.reader, r.writer, r.address));
     }
     Rule::Kept
@@ -149,7 +149,7 @@ fn rule23(q: &[u8; ROW_CELLS], n: usize, succ: &[u32; SLOTS]) -> Rule
 {
     let j = turned(q, n, succ);
     if j < least(n, ROWS) {
-        let r = tables::row(q, j);
+        let r = rows::row(q, j);
         return Rule::Breach(23, Names::Row(r.reader, r.writer, r.address));
     }
     Rule::Kept
@@ -166,7 +166,7 @@ fn rule24(
 {
     let j = over(t, q, n, succ, pred);
     if j < least(n, ROWS) {
-        let r = tables::row(q, j);
+        let r = rows::row(q, j);
         let v = between(t, succ, pred, r);
         return Rule::Breach(24, Names::Between(r.reader, r.writer, v as u8, r.address));
     }

@@ -15,10 +15,10 @@ ghost use Rattle.settle.specs.steps.Ahead.{freeIn};
 fn clash(a: Shape, b: Shape) -> bool
     ensures { λ r. ⌜ r ≡ clashing a b ⌝ }
 {
-    if !access::overlap(a, b) {
+    if !ranges::overlap(a, b) {
         return false;
     }
-    (access::writes(a) | access::writes(b)) & !access::both_sc(a, b)
+    (access::writes(a) | access::writes(b)) & !ranges::both_sc(a, b)
 }
 
 // Do an access of e and one of d? Most events have no second access.

@@ -3,7 +3,7 @@ use entries::Counts;
 use format::MAX_PAIRS;
 use format::field;
 use format::field::FIELD_BYTES;
-use layout::PAIR_BYTES;
+use sizes::PAIR_BYTES;
 ghost use mathlib.Core.Path.{_≡_};
 ghost use Rattle.parse.specs.Parse.{placeOf, allowed, headFault, eventFault, rowFault, pairFault, valueFault, faultAt};
 ghost use Rattle.entries.specs.Entries.{eventsIn, rowsIn, pairsIn, execution};
@@ -32,11 +32,11 @@ fn head_fault(v: &[u8]) -> u8
     ensures { λ r. ⌜ r ≡ headFault (now (v .entry)) ⌝ }
 {
     let edition = field::byte(v, 0);
-    let long = v.len() == layout::head_bytes(edition) as usize;
+    let long = v.len() == sizes::head_bytes(edition) as usize;
     if !long {
         return 4;
     }
-    let fits = content::head_fits(layout::head_of(edition, v));
+    let fits = limits::head_fits(layout::head_of(edition, v));
     if !fits {
         return 5;
     }
@@ -47,7 +47,7 @@ fn event_fault(s: &[u8], x: Counts, at: &[u16], v: &[u8]) -> u8
     requires { ⌜ Counted (now s) x (now at) ⌝ }
     ensures { λ r. ⌜ r ≡ eventFault (x .head) (eventsIn (now (s .entry)) x (now (at .entry))) (now (v .entry)) ⌝ }
 {
-    let least = layout::event_bytes(x.head.edition) as usize;
+    let least = sizes::event_bytes(x.head.edition) as usize;
     let short = v.len() < least;
     if short {
         return 4;
@@ -58,11 +58,11 @@ fn event_fault(s: &[u8], x: Counts, at: &[u16], v: &[u8]) -> u8
     if !fits {
         return 6;
     }
-    let exact = v.len() == least + layout::data_bytes(a) as usize;
+    let exact = v.len() == least + sizes::data_bytes(a) as usize;
     if !exact {
         return 4;
     }
-    let room = content::room_for(x.inits, x.events - x.inits, agent);
+    let room = limits::room_for(x.inits, x.events - x.inits, agent);
     if !room {
         return 9;
     }
@@ -72,7 +72,7 @@ fn event_fault(s: &[u8], x: Counts, at: &[u16], v: &[u8]) -> u8
 fn row_fault(s: &[u8], x: Counts, at: &[u16], v: &[u8]) -> u8
     ensures { λ r. ⌜ r ≡ rowFault (x .head) (eventsIn (now (s .entry)) x (now (at .entry))) (rowsIn (now (s .entry)) x) (now (v .entry)) ⌝ }
 {
-    let long = v.len() == layout::row_bytes(x.head.edition) as usize;
+    let long = v.len() == sizes::row_bytes(x.head.edition) as usize;
     if !long {
         return 4;
     }

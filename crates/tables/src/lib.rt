@@ -1,13 +1,11 @@
-// The tables that every step of the judge works on, in arrays of fixed length: what stands in them. No function has a `requires`: an event counts by its place
-// among 32, a slot by its place among 64, a row by its place among 512.
-use access::covers;
-use format::Pair;
-use format::Row;
+// The tables that every step of the judge works on, in arrays of fixed length: their lengths, and what stands in that of accesses; rows and pairs
+// are read by crates/rows. No function has a `requires`: an event counts by its place among 32, a slot by its place among 64.
 use format::Shape;
+use ranges::covers;
 ghost use mathlib.Core.Path.{_≡_};
 ghost use Prim.Native.Nat.{_%_};
 ghost use Rattle.sets.specs.Mask.{slots};
-ghost use Rattle.tables.specs.Tables.{accesses, agentIn, shapeIn, slotIn, atIn, rowRoom, rowIn, seenIn, wroteIn, pairRoom, pairIn};
+ghost use Rattle.tables.specs.Tables.{accesses, agentIn, shapeIn, slotIn, atIn};
 
 // The slots for accesses, two to an event.
 pub const ACCESSES: usize = 64;
@@ -29,8 +27,6 @@ pub const PAIRS: usize = 32;
 
 // Two columns: first, second.
 pub const PAIR_CELLS: usize = 64;
-
-// ---- accesses
 
 pub fn agent(t: &[u8; COLUMNS], e: usize) -> u8
     ensures { λ r. ⌜ r ≡ agentIn (now (t .entry)) (e % slots) ⌝ }
@@ -73,42 +69,5 @@ pub fn at(t: &[u8; COLUMNS], e: usize, a: u8) -> Shape
         start: 0,
         width: 0,
         tear: 0,
-    }
-}
-
-// ---- rows
-
-pub fn row(q: &[u8; ROW_CELLS], j: usize) -> Row
-    ensures { λ r. ⌜ r ≡ rowIn (now (q .entry)) (j % rowRoom) ⌝ }
-{
-    let i = j % 512;
-    Row {
-        reader: q[i] % 32,
-        address: q[512 + i],
-        writer: q[1024 + i] % 32,
-    }
-}
-
-pub fn seen(q: &[u8; ROW_CELLS], j: usize) -> u8
-    ensures { λ r. ⌜ r ≡ seenIn (now (q .entry)) (j % rowRoom) ⌝ }
-{
-    q[1536 + j % 512]
-}
-
-pub fn wrote(q: &[u8; ROW_CELLS], j: usize) -> u8
-    ensures { λ r. ⌜ r ≡ wroteIn (now (q .entry)) (j % rowRoom) ⌝ }
-{
-    q[2048 + j % 512]
-}
-
-// ---- pairs
-
-pub fn pair(p: &[u8; PAIR_CELLS], j: usize) -> Pair
-    ensures { λ r. ⌜ r ≡ pairIn (now (p .entry)) (j % pairRoom) ⌝ }
-{
-    let i = j % 32;
-    Pair {
-        first: p[i] % 32,
-        second: p[32 + i] % 32,
     }
 }

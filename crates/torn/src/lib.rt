@@ -25,7 +25,7 @@ fn untorn(t: &[u8; COLUMNS], r: Row) -> bool
 {
     let a = tables::shape(t, tables::slot_at(t, r.reader as usize, r.address));
     let b = tables::shape(t, tables::slot_at(t, r.writer as usize, r.address));
-    access::tear_free(a) & (access::tear_free(b) & access::equal(a, b))
+    access::tear_free(a) & (access::tear_free(b) & ranges::equal(a, b))
 }
 
 // The mask of the reader's access gains the writer, where the row is untorn.
@@ -45,7 +45,7 @@ fn sources(t: &[u8; COLUMNS], q: &[u8; ROW_CELLS], n: usize, masks: &mut [u32])
 {
     let m = least(n, ROWS);
     for j in 0..m {
-        note_row(t, tables::row(q, j), masks);
+        note_row(t, rows::row(q, j), masks);
     }
 }
 

@@ -1,4 +1,4 @@
--- `before::behind` meets its contract. Assumes nothing.
+-- `own::behind` meets its contract. Assumes nothing.
 use mathlib.Core.Path.{_≡_, ap, _∙_}
 use Prim.Native.Nat.{ℕ, _+_, _-_, _%_, _^_, min}
 use native.Mathlib.Nat.{mod-eq-of-lt}
@@ -9,10 +9,10 @@ use lib.ListN.{getD}
 use Rattle.sets.specs.Mask.{slots, full}
 use Rattle.tables.specs.Tables.{agentRoom, agentIn}
 use Rattle.tables.proofs.TablesLaws.{agent-place}
-use Rattle.before.specs.steps.Own.{behindIn}
+use Rattle.own.specs.steps.ByAgent.{behindIn}
 use borrow.Author.Needs.{needs}
-use Rattle.before.proofs.behind.Statement.{statement}
-use Rattle.before.proofs.behind.Tie as tie
+use Rattle.own.proofs.behind.Statement.{statement}
+use Rattle.own.proofs.behind.Tie as tie
 
 agent-requires : tie.Need-agent-requires
 agent-requires c κs = search needs

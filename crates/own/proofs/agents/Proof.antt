@@ -1,4 +1,4 @@
--- `before::agents` meets its contract: the masks have the first e events. The measure is what is left. Assumes nothing.
+-- `own::agents` meets its contract: the masks have the first e events. The measure is what is left. Assumes nothing.
 use mathlib.Core.Path.{_≡_, ap, _∙_}
 use mathlib.Core.List.{List}
 use Prim.Native.Nat.{ℕ, _-_, _%_, _≤_, min}
@@ -9,11 +9,11 @@ use lib.ListN.{length}
 use Rattle.sets.specs.Mask.{slots}
 use Rattle.cells.specs.Cells.{gaining}
 use Rattle.tables.specs.Tables.{agentIn}
-use Rattle.before.specs.steps.Own.{agentsIn}
-use Rattle.before.proofs.BeforeLaws.{agents-none, agents-more, agents-length}
+use Rattle.own.specs.steps.ByAgent.{agentsIn}
+use Rattle.own.proofs.OwnLaws.{agents-none, agents-more, agents-length}
 use borrow.Author.Needs.{needs}
-use Rattle.before.proofs.agents.Statement.{statement}
-use Rattle.before.proofs.agents.Tie as tie
+use Rattle.own.proofs.agents.Statement.{statement}
+use Rattle.own.proofs.agents.Tie as tie
 
 abbrev Inv-loop : tie.InvT-loop
 Inv-loop t n by₀ m e₀ by e = (e ≤ m) × (m ≤ slots) × (by ≡ agentsIn t e by₀)

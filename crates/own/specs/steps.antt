@@ -1,2 +1,2 @@
 -- Contracts of private functions: no part of what the crate promises.
-pub mod Own
+pub mod ByAgent

@@ -1,14 +1,14 @@
--- `before::meets` meets its contract, access by access. Assumes nothing.
+-- `own::meets` meets its contract, access by access. Assumes nothing.
 use Prim.Native.Nat.{_%_}
 use native.Mathlib.Omega.{arith}
 use denote.Ref.{now}
 use Rattle.sets.specs.Mask.{slots}
 use Rattle.format.specs.Shape.{overlap}
 use Rattle.tables.proofs.TablesLaws.{overlap-left, overlap-right, across-first, across-none, across-rest}
-use Rattle.before.specs.Before.{meetsIn}
+use Rattle.own.specs.Own.{meetsIn}
 use borrow.Author.Needs.{needs}
-use Rattle.before.proofs.meets.Statement.{statement}
-use Rattle.before.proofs.meets.Tie as tie
+use Rattle.own.proofs.meets.Statement.{statement}
+use Rattle.own.proofs.meets.Tie as tie
 
 mul-i : tie.Need-mul-i
 mul-i c = search needs

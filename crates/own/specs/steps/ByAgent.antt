@@ -1,4 +1,4 @@
--- An event's own mask (`ownIn`, specs/Before.antt) by a mask for each agent. Laws: proofs/BeforeLaws.antt.
+-- An event's own mask (`ownIn`, specs/Own.antt) by a mask for each agent. Laws: proofs/OwnLaws.antt.
 --     agentsIn t n l       the masks l, of which each agent's has gained its events below n
 --     behindIn t by e      the events of e's agent behind e           ownBy t n by e     an init's mask: what it meets; another event's: those
 -- Assumes nothing.
@@ -12,7 +12,7 @@ use Rattle.sets.specs.Mask.{slots, full}
 use Rattle.cells.specs.Walk.{upTo, picked}
 use Rattle.cells.specs.Cells.{gaining}
 use Rattle.tables.specs.Tables.{agentIn}
-use Rattle.before.specs.Before.{metIn}
+use Rattle.own.specs.Own.{metIn}
 
 unfoldable pub agentsIn : List ℕ → ℕ → List ℕ → List ℕ
 agentsIn t n l = upTo (λ (e : ℕ) (m : List ℕ). gaining m (agentIn t e) e) n l

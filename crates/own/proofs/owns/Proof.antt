@@ -1,4 +1,4 @@
--- `before::owns` meets its contract: the first e masks are there. The measure is what is left. Assumes nothing.
+-- `own::owns` meets its contract: the first e masks are there. The measure is what is left. Assumes nothing.
 use mathlib.Core.Path.{_≡_, ap, _∙_}
 use mathlib.Core.List.{List}
 use Prim.Native.Nat.{ℕ, _-_, _≤_, min}
@@ -9,12 +9,12 @@ use lib.ListN.{length, set}
 use Rattle.sets.specs.Mask.{slots}
 use Rattle.cells.specs.Cells.{placing}
 use Rattle.cells.proofs.CellsLaws.{placing-none, placing-more, placing-length}
-use Rattle.before.specs.Before.{ownIn}
-use Rattle.before.specs.steps.Own.{ownBy}
-use Rattle.before.proofs.BeforeLaws.{own-is}
+use Rattle.own.specs.Own.{ownIn}
+use Rattle.own.specs.steps.ByAgent.{ownBy}
+use Rattle.own.proofs.OwnLaws.{own-is}
 use borrow.Author.Needs.{needs}
-use Rattle.before.proofs.owns.Statement.{statement}
-use Rattle.before.proofs.owns.Tie as tie
+use Rattle.own.proofs.owns.Statement.{statement}
+use Rattle.own.proofs.owns.Tie as tie
 
 abbrev Inv-loop : tie.InvT-loop
 Inv-loop t n succ₀ by m e₀ succ e = (e ≤ m) × (m ≤ slots) × (succ ≡ placing (ownIn t (min n slots)) e succ₀)

@@ -1,4 +1,4 @@
--- `before::own` meets its contract, by the agent. Assumes nothing.
+-- `own::own` meets its contract, by the agent. Assumes nothing.
 use mathlib.Core.Path.{sym, ap, _∙_}
 use mathlib.Core.Bool.{Bool, cond}
 use Prim.Native.Nat.{_%_, min}
@@ -7,11 +7,11 @@ use denote.Ref.{now}
 use Rattle.sets.specs.Mask.{slots}
 use Rattle.cells.specs.Walk.{picked}
 use Rattle.tables.specs.Tables.{agentIn}
-use Rattle.before.specs.Before.{metIn}
-use Rattle.before.specs.steps.Own.{behindIn, ownBy}
+use Rattle.own.specs.Own.{metIn}
+use Rattle.own.specs.steps.ByAgent.{behindIn, ownBy}
 use borrow.Author.Needs.{needs}
-use Rattle.before.proofs.own.Statement.{statement}
-use Rattle.before.proofs.own.Tie as tie
+use Rattle.own.proofs.own.Statement.{statement}
+use Rattle.own.proofs.own.Tie as tie
 
 agent-requires : tie.Need-agent-requires
 agent-requires c κs = search needs

@@ -17,7 +17,8 @@ use Rattle.cells.specs.First.{firstOf}
 use Rattle.tables.specs.Tables.{agentIn, shapeIn, slotIn, atIn, writesIn, rowIn, pairIn}
 use Rattle.own.specs.Own.{meetsIn, metIn, laterIn, ownIn}
 use Rattle.before.specs.Before.{syncIn, syncGains, rowStepsIn, pairStepsIn, stepsIn, columnsIn}
-use Rattle.bars.specs.Bars.{hits, sharing, scWrites, startGains, startsIn, amongIn, equalsIn, reasonsIn, maskIn, barsIn, filledIn}
+use Rattle.ranges.specs.Ranges.{hits, sharing, scWrites, startGains, startsIn, amongIn, equalsIn}
+use Rattle.bars.specs.Bars.{reasonsIn, maskIn, barsIn, filledIn}
 use Rattle.answer.specs.Rules.{_also_}
 use Rattle.torn.specs.Torn.{untornIn, sourcesIn, twoIn, tornIn, namedIn, rule25In}
 use Rattle.torn.specs.Torn.{sourceGains, twoSourcesIn}

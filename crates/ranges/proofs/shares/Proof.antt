@@ -1,4 +1,4 @@
--- `bars::shares` meets its contract, access by access. Assumes nothing.
+-- `ranges::shares` meets its contract, access by access. Assumes nothing.
 use mathlib.Core.Path.{_≡_, sym, ap, _∙_}
 use Prim.Native.Nat.{_+_, _*_, _%_}
 use native.Mathlib.Nat.{mod-eq-of-lt}
@@ -8,10 +8,10 @@ use Rattle.basis.proofs.BoolLaws.{or-holds, or-fails}
 use Rattle.format.specs.declared.Shape.{Shape}
 use Rattle.sets.specs.Mask.{slots}
 use Rattle.tables.specs.Tables.{accesses, shapeIn}
-use Rattle.bars.specs.Bars.{hits, sharing}
+use Rattle.ranges.specs.Ranges.{hits, sharing}
 use borrow.Author.Needs.{needs}
-use Rattle.bars.proofs.shares.Statement.{statement}
-use Rattle.bars.proofs.shares.Tie as tie
+use Rattle.ranges.proofs.shares.Statement.{statement}
+use Rattle.ranges.proofs.shares.Tie as tie
 
 mul-i : tie.Need-mul-i
 mul-i c = search needs

@@ -30,8 +30,8 @@ use Rattle.cells.proofs.WalkLaws.{upTo-more}
 use Rattle.cells.proofs.CellsLaws.{spread-length, spread-elim, spread-old, spread-new}
 use Rattle.tables.specs.Tables.{slotIn, rowIn}
 use Rattle.tables.proofs.TablesLaws.{slot-lt, reader-slot, writer-slot}
-use Rattle.ranges.specs.Ranges.{equalsIn}
-use Rattle.ranges.proofs.RangesLaws.{equals-mem}
+use Rattle.alike.specs.Ranges.{equalsIn}
+use Rattle.alike.proofs.RangesLaws.{equals-mem}
 use Rattle.bars.specs.Bars.{reasonsIn, maskIn, addIn, barsIn, filledIn, reasons, rowBarsIn}
 
 module _ (t eq succ pred q : List ℕ) (bars : List ℕ) where

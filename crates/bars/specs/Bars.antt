@@ -19,7 +19,7 @@ use Rattle.sets.specs.Mask.{slots, mem, remove}
 use Rattle.cells.specs.Walk.{upTo}
 use Rattle.cells.specs.Cells.{spread}
 use Rattle.tables.specs.Tables.{shapeIn, slotIn, rowIn}
-use Rattle.ranges.specs.Ranges.{equalsIn, matches}
+use Rattle.alike.specs.Ranges.{equalsIn, matches}
 
 -- of the reader's access a and the writer's b: the events with an equal range that write sc, of either; what W happens before (after), what
 -- happens before R (before)

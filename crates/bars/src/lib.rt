@@ -93,6 +93,6 @@ pub fn fill(
     ensures { λ _. ⌜ now (bars .exit) ≡ filledIn (now (t .entry)) (min events slots) (now (succ .entry)) (now (pred .entry)) (now (q .entry)) (min rows rowRoom) (now (bars .entry)) ⌝ }
 {
     let mut eq = [0u32; ACCESSES];
-    ranges::equals(t, events, &mut eq);
+    alike::equals(t, events, &mut eq);
     add(t, &eq, succ, pred, q, rows, bars);
 }

@@ -31,7 +31,7 @@ use Rattle.model.specs.Bar.{barA, barB, barC, rowBars, bar}
 use Rattle.model.proofs.Sound.{Sound}
 use Rattle.model.proofs.HappensLaws.{reader-inside, writer-inside}
 use Rattle.tables.specs.Tables.{shapeIn, slotIn, atIn, rowIn}
-use Rattle.ranges.specs.Ranges.{hits, sharing, matches}
+use Rattle.alike.specs.Ranges.{hits, sharing, matches}
 use Rattle.bars.specs.Bars.{reasons, rowBarsIn, filledIn}
 use Rattle.bars.proofs.BarsLaws.{filled-holds}
 use Rattle.front.specs.Tabled.{Tabled, Rowed, hbOf, Turned}

@@ -17,7 +17,7 @@ use Rattle.cells.specs.First.{firstOf}
 use Rattle.tables.specs.Tables.{agentIn, shapeIn, slotIn, atIn, writesIn, rowIn, pairIn}
 use Rattle.own.specs.Own.{meetsIn, metIn, laterIn, ownIn}
 use Rattle.before.specs.Before.{syncIn, syncGains, rowStepsIn, pairStepsIn, stepsIn, columnsIn}
-use Rattle.ranges.specs.Ranges.{hits, sharing, scWrites, startGains, startsIn, amongIn, equalsIn}
+use Rattle.alike.specs.Ranges.{hits, sharing, scWrites, startGains, startsIn, amongIn, equalsIn}
 use Rattle.bars.specs.Bars.{reasonsIn, maskIn, barsIn, filledIn}
 use Rattle.answer.specs.Rules.{_also_}
 use Rattle.torn.specs.Torn.{untornIn, sourcesIn, twoIn, tornIn, namedIn, rule25In}

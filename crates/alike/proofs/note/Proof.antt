@@ -1,4 +1,4 @@
--- `ranges::note` meets its contract, by what the access is. Assumes nothing.
+-- `alike::note` meets its contract, by what the access is. Assumes nothing.
 use mathlib.Core.Path.{_≡_, sym, ap, _∙_}
 use mathlib.Core.Bool.{_&&_}
 use mathlib.Core.List.{List}
@@ -14,11 +14,11 @@ use Rattle.format.specs.declared.Shape.{Shape}
 use Rattle.format.specs.Shape.{writes, sc}
 use Rattle.tables.specs.Tables.{accesses, shapeIn}
 use Rattle.cells.specs.Cells.{gaining}
-use Rattle.ranges.specs.Ranges.{scWrites, bytes}
-use Rattle.ranges.proofs.RangesLaws.{start-gains, start-keeps}
+use Rattle.alike.specs.Ranges.{scWrites, bytes}
+use Rattle.alike.proofs.RangesLaws.{start-gains, start-keeps}
 use borrow.Author.Needs.{needs}
-use Rattle.ranges.proofs.note.Statement.{statement}
-use Rattle.ranges.proofs.note.Tie as tie
+use Rattle.alike.proofs.note.Statement.{statement}
+use Rattle.alike.proofs.note.Tie as tie
 
 shape-requires : tie.Need-shape-requires
 shape-requires c κs = search needs

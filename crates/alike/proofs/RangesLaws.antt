@@ -25,7 +25,7 @@ use Rattle.cells.specs.Cells.{gaining}
 use Rattle.cells.proofs.WalkLaws.{mem-picked, over-picked}
 use Rattle.cells.proofs.CellsLaws.{gaining-length, gaining-back, gaining-keep, gaining-new, placing-at, placing-beyond}
 use Rattle.tables.specs.Tables.{accesses, shapeIn}
-use Rattle.ranges.specs.Ranges.{hits, sharing, scWrites, bytes, startGains, startsIn, amongIn, equalsIn, matches}
+use Rattle.alike.specs.Ranges.{hits, sharing, scWrites, bytes, startGains, startsIn, amongIn, equalsIn, matches}
 
 module _ (a b : Shape) where
   pub hits-apart : (a .start ≡ b .start → ⊥) → false ≡ hits a b

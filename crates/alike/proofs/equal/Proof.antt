@@ -1,4 +1,4 @@
--- `ranges::equal` meets its contract, by the mode. Assumes nothing.
+-- `alike::equal` meets its contract, by the mode. Assumes nothing.
 use mathlib.Core.Path.{sym, ap, _∙_}
 use Prim.Native.Nat.{_%_}
 use borrow.Author.Tests.{not-true, not-false}
@@ -8,11 +8,11 @@ use Rattle.format.specs.declared.Shape.{Shape}
 use Rattle.format.specs.Shape.{sc}
 use Rattle.cells.specs.Walk.{over, taking}
 use Rattle.tables.specs.Tables.{accesses}
-use Rattle.ranges.specs.Ranges.{sharing, bytes}
-use Rattle.ranges.proofs.RangesLaws.{among-none, among-some}
+use Rattle.alike.specs.Ranges.{sharing, bytes}
+use Rattle.alike.proofs.RangesLaws.{among-none, among-some}
 use borrow.Author.Needs.{needs}
-use Rattle.ranges.proofs.equal.Statement.{statement}
-use Rattle.ranges.proofs.equal.Tie as tie
+use Rattle.alike.proofs.equal.Statement.{statement}
+use Rattle.alike.proofs.equal.Tie as tie
 
 shape-requires : tie.Need-shape-requires
 shape-requires c κs = search needs

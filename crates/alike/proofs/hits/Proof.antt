@@ -1,14 +1,14 @@
--- `ranges::hits` meets its contract, test by test. Assumes nothing.
+-- `alike::hits` meets its contract, test by test. Assumes nothing.
 use mathlib.Core.Path.{ap, _∙_}
 use mathlib.Core.Bool.{Bool, _&&_}
 use lib.Dec.{eqb}
 use Rattle.basis.specs.Test.{_and_}
 use Rattle.basis.proofs.BoolLaws.{amp-and}
 use Rattle.format.specs.Shape.{writes, sc}
-use Rattle.ranges.proofs.RangesLaws.{hits-apart, hits-start}
+use Rattle.alike.proofs.RangesLaws.{hits-apart, hits-start}
 use borrow.Author.Needs.{needs}
-use Rattle.ranges.proofs.hits.Statement.{statement}
-use Rattle.ranges.proofs.hits.Tie as tie
+use Rattle.alike.proofs.hits.Statement.{statement}
+use Rattle.alike.proofs.hits.Tie as tie
 
 returns : tie.Need-returns
 returns c = hits-apart (c .before .before .before .args .a) (c .before .before .before .args .b) (c .if1 .taken)

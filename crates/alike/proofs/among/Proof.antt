@@ -1,4 +1,4 @@
--- `ranges::among` meets its contract: s has what passes of the members that are gone from `left`. The measure is `left`. Assumes nothing.
+-- `alike::among` meets its contract: s has what passes of the members that are gone from `left`. The measure is `left`. Assumes nothing.
 use mathlib.Core.Path.{_≡_, sym, ap, _∙_, subst}
 use mathlib.Core.Bool.{Bool, cond}
 use Prim.Native.Nat.{ℕ, _%_}
@@ -8,10 +8,10 @@ use denote.Ref.{now}
 use Rattle.sets.specs.Mask.{slots, insert, remove}
 use Rattle.cells.specs.Walk.{taking}
 use Rattle.cells.proofs.WalkLaws.{Stand, stand-start, stand-lowest, stand-less, stand-next, stand-end}
-use Rattle.ranges.specs.Ranges.{sharing}
+use Rattle.alike.specs.Ranges.{sharing}
 use borrow.Author.Needs.{needs}
-use Rattle.ranges.proofs.among.Statement.{statement}
-use Rattle.ranges.proofs.among.Tie as tie
+use Rattle.alike.proofs.among.Statement.{statement}
+use Rattle.alike.proofs.among.Tie as tie
 
 abbrev Inv-loop : tie.InvT-loop
 Inv-loop t m b s₀ left₀ s left = Stand m (taking (sharing t b)) 0 left s

@@ -1,4 +1,4 @@
--- `ranges::starts` meets its contract: the slots below k are noted. The measure is what is left. Assumes nothing.
+-- `alike::starts` meets its contract: the slots below k are noted. The measure is what is left. Assumes nothing.
 use mathlib.Core.Path.{_≡_, sym, ap, _∙_}
 use Prim.Native.Nat.{ℕ, _-_, _*_, _≤_, min}
 use native.Mathlib.Nat.{mod-eq-of-lt}
@@ -9,11 +9,11 @@ use Rattle.sets.specs.Mask.{slots}
 use Rattle.cells.specs.Walk.{upTo}
 use Rattle.cells.proofs.WalkLaws.{upTo-more}
 use Rattle.tables.specs.Tables.{accesses}
-use Rattle.ranges.specs.Ranges.{startGains, startsIn}
-use Rattle.ranges.proofs.RangesLaws.{starts-none, starts-length}
+use Rattle.alike.specs.Ranges.{startGains, startsIn}
+use Rattle.alike.proofs.RangesLaws.{starts-none, starts-length}
 use borrow.Author.Needs.{needs}
-use Rattle.ranges.proofs.starts.Statement.{statement}
-use Rattle.ranges.proofs.starts.Tie as tie
+use Rattle.alike.proofs.starts.Statement.{statement}
+use Rattle.alike.proofs.starts.Tie as tie
 
 abbrev Inv-loop : tie.InvT-loop
 Inv-loop t n masks₀ m k₀ masks k = (k ≤ m) × (m ≤ accesses) × (masks ≡ upTo (startGains t) k masks₀)

@@ -1,4 +1,4 @@
--- `ranges::equals` meets its contract: the first k sets are placed. The measure is what is left. Assumes nothing.
+-- `alike::equals` meets its contract: the first k sets are placed. The measure is what is left. Assumes nothing.
 use mathlib.Core.Path.{_≡_, ap, _∙_}
 use mathlib.Core.List.{List}
 use Prim.Native.Nat.{ℕ, _-_, _*_, _≤_, min}
@@ -10,10 +10,10 @@ use Rattle.sets.specs.Mask.{slots}
 use Rattle.cells.specs.Cells.{placing}
 use Rattle.cells.proofs.CellsLaws.{placing-none, placing-more, placing-length}
 use Rattle.tables.specs.Tables.{accesses}
-use Rattle.ranges.specs.Ranges.{bytes, startsIn, amongIn}
+use Rattle.alike.specs.Ranges.{bytes, startsIn, amongIn}
 use borrow.Author.Needs.{needs}
-use Rattle.ranges.proofs.equals.Statement.{statement}
-use Rattle.ranges.proofs.equals.Tie as tie
+use Rattle.alike.proofs.equals.Statement.{statement}
+use Rattle.alike.proofs.equals.Tie as tie
 
 abbrev Inv-loop : tie.InvT-loop
 Inv-loop t n eq₀ by-start m k₀ eq k = (k ≤ m) × (m ≤ accesses) × (eq ≡ placing (amongIn t (startsIn t (min n slots) (replicate bytes 0))) k eq₀)

@@ -14,7 +14,7 @@ ghost use Rattle.sets.specs.Mask.{slots};
 ghost use Rattle.cells.specs.Walk.{over, taking};
 ghost use Rattle.cells.specs.Cells.{placing};
 ghost use Rattle.tables.specs.Tables.{accesses};
-ghost use Rattle.ranges.specs.Ranges.{hits, sharing, bytes, startGains, startsIn, amongIn};
+ghost use Rattle.alike.specs.Ranges.{hits, sharing, bytes, startGains, startsIn, amongIn};
 
 // The flat bytes: four regions of 64.
 const BYTES: usize = 256;

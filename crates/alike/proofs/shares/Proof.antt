@@ -1,4 +1,4 @@
--- `ranges::shares` meets its contract, access by access. Assumes nothing.
+-- `alike::shares` meets its contract, access by access. Assumes nothing.
 use mathlib.Core.Path.{_≡_, sym, ap, _∙_}
 use Prim.Native.Nat.{_+_, _*_, _%_}
 use native.Mathlib.Nat.{mod-eq-of-lt}
@@ -8,10 +8,10 @@ use Rattle.basis.proofs.BoolLaws.{or-holds, or-fails}
 use Rattle.format.specs.declared.Shape.{Shape}
 use Rattle.sets.specs.Mask.{slots}
 use Rattle.tables.specs.Tables.{accesses, shapeIn}
-use Rattle.ranges.specs.Ranges.{hits, sharing}
+use Rattle.alike.specs.Ranges.{hits, sharing}
 use borrow.Author.Needs.{needs}
-use Rattle.ranges.proofs.shares.Statement.{statement}
-use Rattle.ranges.proofs.shares.Tie as tie
+use Rattle.alike.proofs.shares.Statement.{statement}
+use Rattle.alike.proofs.shares.Tie as tie
 
 mul-i : tie.Need-mul-i
 mul-i c = search needs

@@ -24,8 +24,10 @@ use Rattle.cells.proofs.WalkLaws.{mem-picked}
 use Rattle.cells.proofs.CellsLaws.{gaining-mem, gaining-length, placing-length, placing-at, placing-beyond}
 use Rattle.tables.specs.Tables.{agentIn, rowIn, pairIn}
 use Rattle.tables.proofs.TablesLaws.{reader-slot, writer-slot, first-slot, second-slot}
-use Rattle.before.specs.Before.{metIn, laterIn, ownIn, syncIn, syncGains, rowStepsIn, pairGains, pairStepsIn, stepsIn, directIn, rowStep, pairStep, stepIn}
-use Rattle.before.proofs.BeforeLaws.{own-init, own-other, row-gains, row-keeps, row-length, rows-length}
+use Rattle.own.specs.Own.{metIn, laterIn, ownIn}
+use Rattle.own.proofs.OwnLaws.{own-init, own-other}
+use Rattle.before.specs.Before.{syncIn, syncGains, rowStepsIn, pairGains, pairStepsIn, stepsIn, directIn, rowStep, pairStep, stepIn}
+use Rattle.before.proofs.BeforeLaws.{row-gains, row-keeps, row-length, rows-length}
 
 -- ---- masks that each number of a loop adds to
 

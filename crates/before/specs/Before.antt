@@ -1,7 +1,4 @@
--- Happens-before over the tables, by masks of successors. Laws: proofs/BeforeLaws.antt.
---     meetsIn t e d             an access of e and one of d share a byte           metIn t e d      and d is another event
---     laterIn t e d             d is a later event of e's agent
---     ownIn t n e               an init's mask: what it meets; another event's: what is later
+-- Happens-before over the tables, by masks of successors; what two events make by themselves is crate own's. Laws: proofs/BeforeLaws.antt.
 --     syncIn t r                the row's two accesses at its byte are both sc with equal ranges
 --     rowStepsIn, pairStepsIn   the masks with the steps of the first rows, of the first pairs
 --     stepsIn                   all direct steps                                   columnsIn        the masks with the columns
@@ -14,29 +11,16 @@ use mathlib.Core.List.{List}
 use Prim.Native.Nat.{ℕ, _%_}
 use lib.Dec.{eqb, ltb}
 use lib.ListN.{getD}
-use Rattle.basis.specs.Test.{_and_, _or_, non, any, from}
+use Rattle.basis.specs.Test.{_and_, _or_, any, from}
 use Rattle.format.specs.declared.Row.{Row}
 use Rattle.format.specs.declared.Pair.{Pair}
-use Rattle.format.specs.Shape.{overlap, bothSc}
+use Rattle.format.specs.Shape.{bothSc}
 use Rattle.sets.specs.Mask.{slots}
 use Rattle.closing.specs.Closure.{taken, Closed}
-use Rattle.cells.specs.Walk.{upTo, picked}
+use Rattle.cells.specs.Walk.{upTo}
 use Rattle.cells.specs.Cells.{gaining, scatter, placing}
-use Rattle.tables.specs.Tables.{agentIn, atIn, acrossIn, rowIn, pairIn}
-
--- ---- what two events make by themselves
-
-unfoldable pub meetsIn : List ℕ → ℕ → ℕ → Bool
-meetsIn t e d = acrossIn overlap t e d
-
-unfoldable pub metIn : List ℕ → ℕ → ℕ → Bool
-metIn t e d = non (eqb e d) and meetsIn t e d
-
-unfoldable pub laterIn : List ℕ → ℕ → ℕ → Bool
-laterIn t e d = eqb (agentIn t e) (agentIn t d) and ltb e d
-
-unfoldable pub ownIn : List ℕ → ℕ → ℕ → ℕ
-ownIn t n e = cond (eqb (agentIn t e) 0) (picked n (metIn t e)) (picked n (laterIn t e))
+use Rattle.tables.specs.Tables.{agentIn, atIn, rowIn, pairIn}
+use Rattle.own.specs.Own.{metIn, laterIn, ownIn}
 
 -- ---- what rows and pairs add
 

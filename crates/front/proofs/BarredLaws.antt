@@ -31,7 +31,8 @@ use Rattle.model.specs.Bar.{barA, barB, barC, rowBars, bar}
 use Rattle.model.proofs.Sound.{Sound}
 use Rattle.model.proofs.HappensLaws.{reader-inside, writer-inside}
 use Rattle.tables.specs.Tables.{shapeIn, slotIn, atIn, rowIn}
-use Rattle.bars.specs.Bars.{hits, sharing, matches, reasons, rowBarsIn, filledIn}
+use Rattle.alike.specs.Ranges.{hits, sharing, matches}
+use Rattle.bars.specs.Bars.{reasons, rowBarsIn, filledIn}
 use Rattle.bars.proofs.BarsLaws.{filled-holds}
 use Rattle.front.specs.Tabled.{Tabled, Rowed, hbOf, Turned}
 use Rattle.front.proofs.TabledLaws.{at-first, at-second, at-cases, at-slot-of}

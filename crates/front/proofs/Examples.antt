@@ -15,8 +15,10 @@ use Rattle.cells.specs.Walk.{upTo, over, picked}
 use Rattle.cells.specs.Cells.{gaining, spread, scatter, placing}
 use Rattle.cells.specs.First.{firstOf}
 use Rattle.tables.specs.Tables.{agentIn, shapeIn, slotIn, atIn, writesIn, rowIn, pairIn}
-use Rattle.before.specs.Before.{meetsIn, metIn, laterIn, ownIn, syncIn, syncGains, rowStepsIn, pairStepsIn, stepsIn, columnsIn}
-use Rattle.bars.specs.Bars.{hits, sharing, scWrites, startGains, startsIn, amongIn, equalsIn, reasonsIn, maskIn, barsIn, filledIn}
+use Rattle.own.specs.Own.{meetsIn, metIn, laterIn, ownIn}
+use Rattle.before.specs.Before.{syncIn, syncGains, rowStepsIn, pairStepsIn, stepsIn, columnsIn}
+use Rattle.alike.specs.Ranges.{hits, sharing, scWrites, startGains, startsIn, amongIn, equalsIn}
+use Rattle.bars.specs.Bars.{reasonsIn, maskIn, barsIn, filledIn}
 use Rattle.answer.specs.Rules.{_also_}
 use Rattle.torn.specs.Torn.{untornIn, sourcesIn, twoIn, tornIn, namedIn, rule25In}
 use Rattle.torn.specs.Torn.{sourceGains, twoSourcesIn}

@@ -36,7 +36,8 @@ use Rattle.model.proofs.Sound.{Sound}
 use Rattle.model.proofs.HappensLaws.{step-inside, happens-inside, closed-tests}
 use Rattle.tables.specs.Tables.{agentIn, shapeIn, atIn, rowIn, pairIn}
 use Rattle.tables.proofs.TablesLaws.{reader-slot, writer-slot}
-use Rattle.before.specs.Before.{meetsIn, metIn, laterIn, syncIn, directIn, rowStep, pairStep, stepIn, stepsIn, ClosedSteps}
+use Rattle.own.specs.Own.{meetsIn, metIn, laterIn}
+use Rattle.before.specs.Before.{syncIn, directIn, rowStep, pairStep, stepIn, stepsIn, ClosedSteps}
 use Rattle.before.proofs.BeforeLaws.{steps-length, columns-mem}
 use Rattle.before.proofs.StepsLaws.{empty-at, steps-mem}
 use Rattle.front.specs.Tabled.{Tabled, Agents, Rowed, Paired, hbOf, Turned}

@@ -4,7 +4,8 @@ use mathlib.Core.List.{List}
 use Prim.Native.Nat.{ℕ, min}
 use denote.Ref.{now}
 use Rattle.tables.specs.Tables.{rowRoom}
-use Rattle.bars.specs.Bars.{equalsIn, barsIn, filledIn}
+use Rattle.alike.specs.Ranges.{equalsIn}
+use Rattle.bars.specs.Bars.{barsIn, filledIn}
 use borrow.Author.Needs.{needs}
 use Rattle.bars.proofs.fill.Statement.{statement}
 use Rattle.bars.proofs.fill.Tie as tie

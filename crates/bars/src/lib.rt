@@ -11,7 +11,7 @@ use tables::ROW_CELLS;
 use tables::ROWS;
 ghost use mathlib.Core.Path.{_≡_};
 ghost use mathlib.Core.Bool.{cond};
-ghost use Prim.Native.Nat.{_%_, min};
+ghost use Prim.Native.Nat.{min};
 ghost use Rattle.sets.specs.Mask.{slots};
 ghost use Rattle.tables.specs.Tables.{rowRoom};
 ghost use Rattle.bars.specs.Bars.{reasonsIn, maskIn, barsIn, filledIn};

@@ -12,7 +12,7 @@ use tables::PAIRS;
 use tables::ROW_CELLS;
 use tables::ROWS;
 ghost use mathlib.Core.Path.{_≡_};
-ghost use Prim.Native.Nat.{_%_, min};
+ghost use Prim.Native.Nat.{min};
 ghost use Rattle.sets.specs.Mask.{slots};
 ghost use Rattle.tables.specs.Tables.{rowRoom, pairRoom};
 ghost use Rattle.before.specs.Before.{syncIn, syncGains, rowStepsIn, pairGains, pairStepsIn, stepsIn, columnsIn, ClosedSteps};

@@ -17,7 +17,7 @@ use Rattle.format.specs.Event.{saw, wrote}
 use Rattle.format.specs.Field.{fieldBytes, restAt}
 use Rattle.format.specs.Layout.{eventBytes, shapeOf, eventOf}
 use Rattle.format.proofs.LayoutLaws.{saw-some, wrote-write, wrote-both}
-use Rattle.lay.specs.Lay.{dataAt, passed}
+use Rattle.row_data.specs.RowData.{dataAt, passed}
 
 module _ (s : List ℕ) (p edition n : ℕ) where
   abbrev v : List ℕ

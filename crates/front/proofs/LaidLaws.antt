@@ -32,7 +32,8 @@ use Rattle.sets.specs.Mask.{slots}
 use Rattle.model.proofs.Sound.{Sound, sound}
 use Rattle.model.proofs.HappensLaws.{reader-inside, writer-inside}
 use Rattle.tables.specs.Tables.{accesses, columns, agentIn, shapeIn, rowRoom, rowCells, rowIn, pairRoom, pairIn, agentRoom}
-use Rattle.lay.specs.Lay.{eventsPut, rowsPut, pairsPut, laidShape, dataAt, passed, seenAt, wroteAt, Layered}
+use Rattle.row_data.specs.RowData.{laidShape, dataAt, passed, seenAt, wroteAt}
+use Rattle.lay.specs.Lay.{eventsPut, rowsPut, pairsPut, Layered}
 use Rattle.lay.proofs.CellLaws.{agent-at, kind-at, mode-at, start-at, width-at, tear-at, width-beyond, second-kept, reader-at, address-at, writer-at, seen-at, wrote-at, first-at, second-at}
 use Rattle.front.specs.Tabled.{Agents, Rowed, Paired, Seen}
 use Rattle.front.proofs.TabledLaws.{OneTabled}

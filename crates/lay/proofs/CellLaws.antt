@@ -20,8 +20,10 @@ use Rattle.entries.specs.Entries.{rowNo, pairNo}
 use Rattle.sets.specs.Mask.{slots}
 use Rattle.cells.specs.Walk.{upTo}
 use Rattle.tables.specs.Tables.{rowRoom, puttingRow, pairRoom}
-use Rattle.lay.specs.Lay.{eventStep, eventsPut, seenAt, wroteAt, rowPut, rowsPut, pairPut, pairsPut}
-use Rattle.lay.proofs.LayLaws.{upTo-length, event-length, row-length, pair-length}
+use Rattle.row_data.specs.RowData.{seenAt, wroteAt, rowPut}
+use Rattle.row_data.proofs.RowDataLaws.{row-length}
+use Rattle.lay.specs.Lay.{eventStep, eventsPut, rowsPut, pairPut, pairsPut}
+use Rattle.lay.proofs.LayLaws.{upTo-length, event-length, pair-length}
 
 -- ---- five cells
 

@@ -7,7 +7,9 @@ use lib.ListN.{length, length-set}
 use Rattle.entries.specs.declared.Counts.{Counts}
 use Rattle.cells.specs.Walk.{upTo}
 use Rattle.cells.proofs.WalkLaws.{upTo-more}
-use Rattle.lay.specs.Lay.{eventStep, eventsPut, rowPut, rowsPut, pairPut, pairsPut}
+use Rattle.row_data.specs.RowData.{rowPut}
+use Rattle.row_data.proofs.RowDataLaws.{row-length}
+use Rattle.lay.specs.Lay.{eventStep, eventsPut, rowsPut, pairPut, pairsPut}
 
 -- a loop whose turns keep a table's length
 module _ (f : ℕ → List ℕ → List ℕ) (size : (j : ℕ) (l : List ℕ) → length (f j l) ≡ length l) (l : List ℕ) where
@@ -18,10 +20,6 @@ module _ (f : ℕ → List ℕ → List ℕ) (size : (j : ℕ) (l : List ℕ) �
 
 pub event-length : (s : List ℕ) (edition : ℕ) (at : List ℕ) (e : ℕ) (l : List ℕ) → length (eventStep s edition at e l) ≡ length l
 event-length s edition at e l = simp length-set
-
-pub row-length : (s : List ℕ) (x : Counts) (at t : List ℕ) (j : ℕ) (l : List ℕ) → length (rowPut s x at t j l) ≡ length l
-unfolding rowPut
-row-length s x at t j l = simp length-set
 
 pub pair-length : (s : List ℕ) (x : Counts) (j : ℕ) (l : List ℕ) → length (pairPut s x j l) ≡ length l
 unfolding pairPut

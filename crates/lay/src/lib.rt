@@ -1,18 +1,15 @@
-// Fills the tables from what the reader hands over: counts, and places in the sheet. No function has a `requires`.
+// Fills the tables from what the reader hands over: counts, and places in the sheet. A row with its data comes from crate `row_data`. No function has
+// a `requires`.
 use entries::Counts;
-use format::Shape;
-use format::field;
-use format::field::FIELD_BYTES;
 use sets::SLOTS;
 use sets::least;
-use tables::ACCESSES;
 use tables::PAIRS;
 use tables::ROWS;
 ghost use mathlib.Core.Path.{_≡_};
-ghost use Prim.Native.Nat.{_-_, _%_, min};
+ghost use Prim.Native.Nat.{_%_, min};
 ghost use Rattle.sets.specs.Mask.{slots};
 ghost use Rattle.tables.specs.Tables.{rowRoom, pairRoom};
-ghost use Rattle.lay.specs.Lay.{eventPut, eventsPut, laidShape, dataAt, passed, rowPut, rowsPut, pairPut, pairsPut, Layered};
+ghost use Rattle.lay.specs.Lay.{eventPut, eventsPut, rowsPut, pairPut, pairsPut, Layered};
 
 // Event e, whose field stands at p, into its first slot.
 fn event(s: &[u8], edition: u8, p: u16, e: usize, t: &mut [u8])
@@ -35,63 +32,13 @@ fn events(s: &[u8], edition: u8, at: &[u16], n: usize, t: &mut [u8])
     }
 }
 
-// The access of event e whose data is read: that in its first slot.
-fn access(t: &[u8], e: u8) -> Shape
-    ensures { λ r. ⌜ r ≡ laidShape (now (t .entry)) e ⌝ }
-{
-    let k = 2 * e as usize % ACCESSES;
-    Shape {
-        kind: field::byte(t, 32 + k),
-        mode: field::byte(t, 96 + k),
-        start: field::byte(t, 160 + k),
-        width: field::byte(t, 224 + k),
-        tear: field::byte(t, 288 + k),
-    }
-}
-
-// How far the byte a lies behind a start; 0 where it lies before it.
-fn past(start: u8, a: u8) -> u8
-    ensures { λ r. ⌜ r ≡ a - start ⌝ }
-{
-    if start <= a { a - start } else { 0 }
-}
-
-// Where the data of the event at p, whose access is b, has the byte a.
-fn data_at(edition: u8, p: u16, b: Shape, a: u8) -> u32
-    ensures { λ r. ⌜ r ≡ dataAt edition p b a ⌝ }
-{
-    p as u32 + FIELD_BYTES as u32 + sizes::event_bytes(edition) as u32 + past(b.start, a) as u32
-}
-
-// How much of its data stands before what an access wrote.
-fn passed(b: Shape) -> u8
-    ensures { λ r. ⌜ r ≡ passed b ⌝ }
-{
-    if b.kind == 3 { b.width } else { 0 }
-}
-
-// Row j, with the byte that its reader saw and the byte that its writer wrote.
-fn row(s: &[u8], x: Counts, at: &[u16], t: &[u8], j: u16, q: &mut [u8])
-    ensures { λ _. ⌜ now (q .exit) ≡ rowPut (now (s .entry)) x (now (at .entry)) (now (t .entry)) j (now (q .entry)) ⌝ }
-{
-    let edition = x.head.edition;
-    let r = entries::row_no(s, x, j);
-    let read = access(t, r.reader);
-    let from = data_at(edition, entries::place_of(at, r.reader), read, r.address);
-    let seen = field::byte(s, from as usize);
-    let write = access(t, r.writer);
-    let behind = data_at(edition, entries::place_of(at, r.writer), write, r.address);
-    let wrote = field::byte(s, behind as usize + passed(write) as usize);
-    store::put_row(q, j as usize, r, seen, wrote);
-}
-
 // The sheet's rows, as many as have a place, by the table of accesses.
 fn rows(s: &[u8], x: Counts, at: &[u16], t: &[u8], q: &mut [u8])
     ensures { λ _. ⌜ now (q .exit) ≡ rowsPut (now (s .entry)) x (now (at .entry)) (now (t .entry)) (min (x .rows) rowRoom) (now (q .entry)) ⌝ }
 {
     let m = least(x.rows as usize, ROWS);
     for j in 0..m {
-        row(s, x, at, t, j as u16, q);
+        row_data::row(s, x, at, t, j as u16, q);
     }
 }
 

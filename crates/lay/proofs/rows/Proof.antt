@@ -6,7 +6,8 @@ use borrow.Author.Needs.{needs}
 use denote.Ref.{now}
 use lib.ListN.{length}
 use Rattle.tables.specs.Tables.{rowRoom}
-use Rattle.lay.specs.Lay.{rowPut, rowsPut}
+use Rattle.row_data.specs.RowData.{rowPut}
+use Rattle.lay.specs.Lay.{rowsPut}
 use Rattle.lay.proofs.LayLaws.{rows-none, rows-more, rows-length}
 use Rattle.lay.proofs.rows.Statement.{statement}
 use Rattle.lay.proofs.rows.Tie as tie

@@ -1,8 +1,8 @@
--- `lay::row` meets its contract, call by call. Assumes nothing.
-use Rattle.lay.specs.Lay.{rowPut}
+-- `row_data::row` meets its contract, call by call. Assumes nothing.
+use Rattle.row_data.specs.RowData.{rowPut}
 use borrow.Author.Needs.{needs}
-use Rattle.lay.proofs.row.Statement.{statement}
-use Rattle.lay.proofs.row.Tie as tie
+use Rattle.row_data.proofs.row.Statement.{statement}
+use Rattle.row_data.proofs.row.Tie as tie
 
 row-no-requires : tie.Need-row-no-requires
 row-no-requires c κs = search needs

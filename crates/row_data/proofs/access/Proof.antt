@@ -1,8 +1,8 @@
--- `lay::access` meets its contract, byte by byte. Assumes nothing.
+-- `row_data::access` meets its contract, byte by byte. Assumes nothing.
 use Rattle.tables.specs.Tables.{shapeIn}
 use borrow.Author.Needs.{needs}
-use Rattle.lay.proofs.access.Statement.{statement}
-use Rattle.lay.proofs.access.Tie as tie
+use Rattle.row_data.proofs.access.Statement.{statement}
+use Rattle.row_data.proofs.access.Tie as tie
 
 mul-k : tie.Need-mul-k
 mul-k c = search needs

@@ -1,7 +1,7 @@
--- `lay::passed` meets its contract: by the kind. Assumes nothing.
+-- `row_data::passed` meets its contract: by the kind. Assumes nothing.
 use borrow.Author.Tests.{ne-eqb}
-use Rattle.lay.proofs.passed.Statement.{statement}
-use Rattle.lay.proofs.passed.Tie as tie
+use Rattle.row_data.proofs.passed.Statement.{statement}
+use Rattle.row_data.proofs.passed.Tie as tie
 
 returns : tie.Need-returns
 returns c = simp (c .if1 .taken)

@@ -19,9 +19,10 @@ use lib.ListN.{length, getD}
 use Rattle.answer.specs.declared.Answer.{Answer}
 use Rattle.answer.specs.Fit.{Fits}
 use Rattle.puts.specs.Numbers.{eventsText}
-use Rattle.report.specs.Line.{headOf, told, lineOf}
+use Rattle.line_head.specs.Head.{headOf}
+use Rattle.line_head.specs.Within.{PutsWithin}
+use Rattle.report.specs.Line.{told, lineOf}
 use Rattle.puts.specs.Put.{Put, Puts}
-use Rattle.report.specs.Within.{PutsWithin}
 use Rattle.report.specs.Lined.{Lined}
 use Rattle.puts.proofs.NumberLaws.{less-or-not}
 use Rattle.puts.proofs.PutLaws.{put-unique, puts-then, puts-put}

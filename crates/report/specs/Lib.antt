@@ -1,5 +1,4 @@
 pub mod Line
-pub mod Within
 pub mod Lined
 pub mod Examples
 pub mod Demands

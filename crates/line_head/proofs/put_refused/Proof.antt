@@ -1,10 +1,10 @@
--- `report::put_refused` meets its contract: the pieces are put one after the other. Assumes nothing.
+-- `line_head::put_refused` meets its contract: the pieces are put one after the other. Assumes nothing.
 use native.Mathlib.Omega.{arith}
 use borrow.Author.Needs.{needs}
 use lib.ListN.{length-append}
 use Rattle.puts.proofs.PutLaws.{puts-then}
-use Rattle.report.proofs.put_refused.Statement.{statement}
-use Rattle.report.proofs.put_refused.Tie as tie
+use Rattle.line_head.proofs.put_refused.Statement.{statement}
+use Rattle.line_head.proofs.put_refused.Tie as tie
 
 slice-aggregate-put-bytes : tie.Need-slice-aggregate-put-bytes
 slice-aggregate-put-bytes c = search needs

@@ -1,4 +1,4 @@
--- What the private steps of a line promise. No public contract cites this file.
+-- What the steps of a line's head promise.
 --     PutsWithin most piece at next entry exit    piece is put, and is at most `most` bytes long
 -- Assumes nothing.
 use Prim.Native.Nat.{ℕ, _≤_}

@@ -1,7 +1,7 @@
--- `report::put_head` meets its contract: in each arm the case of the answer is known, and the callee puts its text. Assumes nothing.
+-- `line_head::put_head` meets its contract: in each arm the case of the answer is known, and the callee puts its text. Assumes nothing.
 use borrow.Author.Needs.{needs}
-use Rattle.report.proofs.put_head.Statement.{statement}
-use Rattle.report.proofs.put_head.Tie as tie
+use Rattle.line_head.proofs.put_head.Statement.{statement}
+use Rattle.line_head.proofs.put_head.Tie as tie
 
 enum-known-x : tie.Need-enum-known-x
 enum-known-x c = search needs

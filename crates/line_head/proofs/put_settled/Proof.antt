@@ -1,10 +1,10 @@
--- `report::put_settled` meets its contract: in each arm the case is known, and the pieces are put one after the other. Assumes nothing.
+-- `line_head::put_settled` meets its contract: in each arm the case is known, and the pieces are put one after the other. Assumes nothing.
 use native.Mathlib.Omega.{arith}
 use borrow.Author.Needs.{needs}
 use lib.ListN.{length-append}
 use Rattle.puts.proofs.PutLaws.{puts-then}
-use Rattle.report.proofs.put_settled.Statement.{statement}
-use Rattle.report.proofs.put_settled.Tie as tie
+use Rattle.line_head.proofs.put_settled.Statement.{statement}
+use Rattle.line_head.proofs.put_settled.Tie as tie
 
 enum-told : tie.Need-enum-told
 enum-told c = search needs

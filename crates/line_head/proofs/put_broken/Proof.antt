@@ -1,10 +1,10 @@
--- `report::put_broken` meets its contract: the pieces are put one after the other. Assumes nothing.
+-- `line_head::put_broken` meets its contract: the pieces are put one after the other. Assumes nothing.
 use borrow.Author.Needs.{needs}
 use Rattle.answer.specs.NameOf.{namesOf}
 use Rattle.puts.proofs.PutLaws.{puts-then}
-use Rattle.report.proofs.LineLaws.{broken-near}
-use Rattle.report.proofs.put_broken.Statement.{statement}
-use Rattle.report.proofs.put_broken.Tie as tie
+use Rattle.line_head.proofs.HeadLaws.{broken-near}
+use Rattle.line_head.proofs.put_broken.Statement.{statement}
+use Rattle.line_head.proofs.put_broken.Tie as tie
 
 slice-aggregate-put-bytes : tie.Need-slice-aggregate-put-bytes
 slice-aggregate-put-bytes c = search needs

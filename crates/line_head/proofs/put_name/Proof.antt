@@ -1,8 +1,8 @@
--- `report::put_name` meets its contract: in each arm the case of the name is known. Assumes nothing.
+-- `line_head::put_name` meets its contract: in each arm the case of the name is known. Assumes nothing.
 use native.Mathlib.Omega.{arith}
 use borrow.Author.Needs.{needs}
-use Rattle.report.proofs.put_name.Statement.{statement}
-use Rattle.report.proofs.put_name.Tie as tie
+use Rattle.line_head.proofs.put_name.Statement.{statement}
+use Rattle.line_head.proofs.put_name.Tie as tie
 
 enum-known-n : tie.Need-enum-known-n
 enum-known-n c = search needs

@@ -1,9 +1,9 @@
--- `report::put_number` meets its contract: a number of 32 bits takes at most 11 bytes with its space. Assumes nothing.
+-- `line_head::put_number` meets its contract: a number of 32 bits takes at most 11 bytes with its space. Assumes nothing.
 use native.Mathlib.Omega.{arith}
 use borrow.Author.Needs.{needs}
 use Rattle.puts.proofs.NumbersLaws.{numbered-length}
-use Rattle.report.proofs.put_number.Statement.{statement}
-use Rattle.report.proofs.put_number.Tie as tie
+use Rattle.line_head.proofs.put_number.Statement.{statement}
+use Rattle.line_head.proofs.put_number.Tie as tie
 
 put-spaced-requires : tie.Need-put-spaced-requires
 put-spaced-requires c κs = search needs

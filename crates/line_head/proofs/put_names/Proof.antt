@@ -1,10 +1,10 @@
--- `report::put_names` meets its contract: four names, each right after the one before. Assumes nothing.
+-- `line_head::put_names` meets its contract: four names, each right after the one before. Assumes nothing.
 use native.Mathlib.Omega.{arith}
 use borrow.Author.Needs.{needs}
 use lib.ListN.{length-append}
 use Rattle.puts.proofs.PutLaws.{puts-then}
-use Rattle.report.proofs.put_names.Statement.{statement}
-use Rattle.report.proofs.put_names.Tie as tie
+use Rattle.line_head.proofs.put_names.Statement.{statement}
+use Rattle.line_head.proofs.put_names.Tie as tie
 
 put-name-requires : tie.Need-put-name-requires
 put-name-requires c κs = search needs

@@ -10,7 +10,8 @@ use native.Mathlib.Omega.{arith}
 use lib.ListN.{length, getD}
 use Rattle.sets.specs.Mask.{slots, Has, insert, full}
 use Rattle.sets.proofs.MaskLaws.{mem-full, insert-new, insert-old, insert-cases, full-has}
-use Rattle.placing.specs.Placing.{Writers, Gathers, Free}
+use Rattle.gather.specs.Writers.{Writers, Gathers}
+use Rattle.placing.specs.Placing.{Free}
 use Rattle.orders.specs.Step.{With, Below, Ready}
 use Rattle.orders.specs.Tables.{tabled}
 use Rattle.orders.specs.Walk.{Gathered}

@@ -5,7 +5,7 @@ use Prim.Native.Nat.{ℕ, _<_}
 use mathlib.Core.List.{List}
 use lib.ListN.{getD}
 use Rattle.sets.specs.Mask.{Has}
-use Rattle.placing.specs.Placing.{barAt}
+use Rattle.gather.specs.Writers.{barAt}
 use Rattle.orders.specs.Problem.{Problem}
 
 abbrev pub tabled : ℕ → List ℕ → List ℕ → Problem

@@ -14,7 +14,8 @@ use mathlib.Core.List.{List}
 use lib.ListN.{length, getD, take, drop}
 use Rattle.sets.specs.Mask.{slots, Has}
 use Rattle.marks.specs.Table.{isMarked, bytesFor, cleared}
-use Rattle.placing.specs.Placing.{Writers, isSeen}
+use Rattle.gather.specs.Writers.{Writers}
+use Rattle.placing.specs.Placing.{isSeen}
 use Rattle.orders.specs.Problem.{Problem}
 use Rattle.orders.specs.First.{FirstOf}
 use Rattle.orders.specs.Step.{Below, Ready, Runs, Dead}

@@ -3,7 +3,7 @@
 // Tables: before[b] is the mask of the events that have to come before b; bars[v * 32 + w] is the mask of the r with a bar (r, w, v).
 // The first `inits` of the `events` are the inits; the table of entered sets in the scratch has a bit for each set of the others.
 // No public function has a `requires`: what does not fit gets a stated answer, with nothing changed.
-use placing::PAIRS;
+use gather::PAIRS;
 use sets::SLOTS;
 ghost use mathlib.Core.Path.{_≡_};
 ghost use mathlib.Core.List.{_++_};
@@ -83,7 +83,7 @@ fn search(
     ensures { λ r. ⌜ Searched (tabled m (now (before .entry)) (now (bars .entry))) k (now (scratch .entry)) r (now (scratch .exit)) (now (path .exit)) ⌝ }
 {
     let mut writers = [0u32; SLOTS];
-    placing::gather(m, bars, &mut writers);
+    gather::gather(m, bars, &mut writers);
     let need = marks::needed(m - k);
     marks::clear(scratch, need); // whatever it held
     let found = walk(k, m, before, bars, &writers, scratch, path);

@@ -1,6 +1,6 @@
 // How many sets can be built by placing events one at a time, from that of the inits on (02 §9). The tables are those of `orders`. The public function
 // has no `requires`: what does not fit gets a stated answer, with nothing changed.
-use placing::PAIRS;
+use gather::PAIRS;
 use sets::SLOTS;
 ghost use Rattle.orders.specs.Tables.{tabled};
 ghost use Rattle.orders.specs.Walk.{Gathered, Starting};
@@ -72,7 +72,7 @@ pub fn count_sets(
         return Count::All(0);
     }
     let mut writers = [0u32; SLOTS];
-    placing::gather(events, bars, &mut writers);
+    gather::gather(events, bars, &mut writers);
     let mut path = [0u8; SLOTS];
     let need = marks::needed(events - inits);
     marks::clear(scratch, need); // before the count

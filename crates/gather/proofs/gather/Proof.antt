@@ -1,4 +1,4 @@
--- `placing::gather` meets its contract: the first v masks are gathered, and the others are as they were. The measure is what is left.
+-- `gather::gather` meets its contract: the first v masks are gathered, and the others are as they were. The measure is what is left.
 -- Assumes nothing.
 use mathlib.Core.Path.{_≡_, refl, sym, _∙_, subst}
 use Prim.Native.Nat.{ℕ, _-_, _≤_, _<_, min}
@@ -9,9 +9,9 @@ use denote.Ref.{now}
 use lib.ListN.{length, getD, set, drop, length-set}
 use lib.Seq.{getD-set-same, getD-set-other, drop-set-lt}
 use Rattle.sets.specs.Mask.{slots}
-use Rattle.placing.specs.Placing.{Writers}
-use Rattle.placing.proofs.gather.Statement.{statement}
-use Rattle.placing.proofs.gather.Tie as tie
+use Rattle.gather.specs.Writers.{Writers}
+use Rattle.gather.proofs.gather.Statement.{statement}
+use Rattle.gather.proofs.gather.Tie as tie
 
 abbrev Inv-loop : tie.InvT-loop
 Inv-loop m bars writers₀ n room v₀ writers v =

@@ -1,4 +1,4 @@
--- `placing::writers_of` meets its contract: c has the writers below w. The measure is what is left. Assumes nothing.
+-- `gather::writers_of` meets its contract: c has the writers below w. The measure is what is left. Assumes nothing.
 use mathlib.Core.Path.{_≡_, sym, ap, _∙_, subst}
 use mathlib.Core.Logic.{⊎-elim}
 use Prim.Native.Nat.{ℕ, _+_, _-_, _%_, _≤_}
@@ -6,11 +6,11 @@ use native.Mathlib.Nat.{mod-eq-of-lt}
 use native.Mathlib.Omega.{arith}
 use denote.Ref.{now}
 use Rattle.sets.specs.Mask.{slots, insert}
-use Rattle.placing.specs.Placing.{Writers}
-use Rattle.placing.proofs.BarsLaws.{writers-empty, writers-none, writers-in, writers-out}
+use Rattle.gather.specs.Writers.{Writers}
+use Rattle.gather.proofs.WritersLaws.{writers-empty, writers-none, writers-in, writers-out}
 use borrow.Author.Needs.{needs}
-use Rattle.placing.proofs.writers_of.Statement.{statement}
-use Rattle.placing.proofs.writers_of.Tie as tie
+use Rattle.gather.proofs.writers_of.Statement.{statement}
+use Rattle.gather.proofs.writers_of.Tie as tie
 
 abbrev Inv-loop : tie.InvT-loop
 Inv-loop m bars v c₀ w₀ c w = (w ≤ m) × Writers w bars v c

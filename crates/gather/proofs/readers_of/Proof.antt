@@ -1,13 +1,13 @@
--- `placing::readers_of` meets its contract: c has the readers of the writers below w. The measure is what is left. Assumes nothing.
+-- `gather::readers_of` meets its contract: c has the readers of the writers below w. The measure is what is left. Assumes nothing.
 use mathlib.Core.Path.{_≡_, subst}
 use Prim.Native.Nat.{ℕ, _-_, _≤_}
 use native.Mathlib.Omega.{arith}
 use denote.Ref.{now}
 use Rattle.sets.specs.Mask.{slots}
-use Rattle.placing.specs.Placing.{Readers}
-use Rattle.placing.proofs.BarsLaws.{readers-none, readers-more}
-use Rattle.placing.proofs.readers_of.Statement.{statement}
-use Rattle.placing.proofs.readers_of.Tie as tie
+use Rattle.gather.specs.Writers.{Readers}
+use Rattle.gather.proofs.WritersLaws.{readers-none, readers-more}
+use Rattle.gather.proofs.readers_of.Statement.{statement}
+use Rattle.gather.proofs.readers_of.Tie as tie
 
 abbrev Inv-loop : tie.InvT-loop
 Inv-loop bars v c₀ w₀ c w = (w ≤ slots) × Readers w bars v c

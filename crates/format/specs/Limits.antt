@@ -3,7 +3,6 @@
 --     maxAgents     the most agents                 maxMemory     the most bytes of memory
 --     maxInits      the most inits                  maxOthers     the most other events, markers included
 --     maxEvents     the most events of all          maxPairs      the most pairs
---     slots         the places for events that a table has: the bits of a mask
 -- Assumes nothing.
 use Prim.Native.Nat.{ℕ, _+_}
 
@@ -32,7 +31,3 @@ maxEvents = maxInits + maxOthers
 -- 01: "pairs rise strictly; at most 32"
 abbrev pub maxPairs : ℕ
 maxPairs = 32
-
--- ours: a table of events has a place for each bit of a mask, so that no type holds a limit
-abbrev pub slots : ℕ
-slots = 32

@@ -10,7 +10,7 @@ use lib.Dec.{ltb}
 use lib.ListN.{length, getD, getD-replicate}
 use lib.Seq.{ext-getD, getD-drop}
 use Rattle.format.specs.declared.Head.{Head}
-use Rattle.format.specs.Limits.{slots}
+use Rattle.sets.specs.Mask.{slots}
 use Rattle.format.specs.Execution.{Execution, inits}
 use Rattle.format.specs.Field.{fieldPlace}
 use Rattle.sheet.specs.declared.Reading.{Reading}

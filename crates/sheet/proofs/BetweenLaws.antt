@@ -18,7 +18,8 @@ use Rattle.basis.proofs.LoopLaws.{number-snoc, number-both}
 use Rattle.format.specs.declared.Head.{Head}
 use Rattle.format.specs.declared.Row.{Row}
 use Rattle.format.specs.declared.Pair.{Pair}
-use Rattle.format.specs.Limits.{maxBytes, maxInits, maxOthers, slots}
+use Rattle.sets.specs.Mask.{slots}
+use Rattle.format.specs.Limits.{maxBytes, maxInits, maxOthers}
 use Rattle.format.specs.Event.{Event, isInit}
 use Rattle.format.specs.Execution.{inits, others}
 use Rattle.format.specs.Field.{tagAt, nextAt, valueAt, fieldPlace}

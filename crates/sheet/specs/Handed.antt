@@ -11,7 +11,7 @@ use lib.ListN.{length, getD, drop, replicate}
 use Rattle.sheet.specs.declared.Outcome.{Outcome}
 use Rattle.sheet.specs.declared.Reading.{Reading}
 use Rattle.sheet.specs.declared.Reading.the-variants.{Refused, Whole}
-use Rattle.format.specs.Limits.{slots}
+use Rattle.sets.specs.Mask.{slots}
 use Rattle.format.specs.Execution.{inits, noHead}
 use Rattle.format.specs.Field.{fieldPlace}
 use Rattle.parse.specs.Parse.{refused, whole, parse}

@@ -1,5 +1,6 @@
 // The reader of sheets: any bytes become a refusal, by number and place, or a whole sheet. The types that it hands over.
 use entries::Counts;
+use sets::SLOTS;
 
 mod fault;
 pub mod reader;
@@ -20,5 +21,5 @@ pub enum Scan {
 pub struct Outcome {
     pub reading: Reading,
     pub counts: Counts,
-    pub at: [u16; 32],
+    pub at: [u16; SLOTS],
 }

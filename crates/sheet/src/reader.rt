@@ -9,10 +9,12 @@ use format::MAX_BYTES;
 use format::field;
 use format::field::FIELD_BYTES;
 use lacking::Lack;
+use sets::SLOTS;
 ghost use mathlib.Core.Path.{_≡_};
 ghost use Prim.Native.Nat.{_≤_, _<_};
 ghost use lib.ListN.{length, replicate};
-ghost use Rattle.format.specs.Limits.{maxBytes, slots};
+ghost use Rattle.sets.specs.Mask.{slots};
+ghost use Rattle.format.specs.Limits.{maxBytes};
 ghost use Rattle.format.specs.Field.{nextAt};
 ghost use Rattle.parse.specs.Parse.{finish};
 ghost use Rattle.entries.specs.Entries.{execution};
@@ -191,7 +193,7 @@ fn refuse(number: u8, place: u32) -> Outcome
     Outcome {
         reading: Reading::Refused(number, place),
         counts: blank(),
-        at: [0; 32],
+        at: [0; SLOTS],
     }
 }
 
@@ -202,7 +204,7 @@ pub fn read(s: &[u8]) -> Outcome
     if MAX_BYTES < s.len() {
         return refuse(1, 0);
     }
-    let mut at = [0u16; 32];
+    let mut at = [0u16; SLOTS];
     let scan = fields(s, &mut at);
     match scan {
         Scan::Stopped(n, p) => refuse(n, p),

@@ -11,7 +11,8 @@ use Prim.Native.Nat.{ℕ, suc, _+_, _-_, _*_, _<_, _≤_}
 use lib.Dec.{eqb}
 use lib.ListN.{length, getD, take, drop, replicate}
 use Rattle.format.specs.declared.Head.{Head}
-use Rattle.format.specs.Limits.{maxBytes, maxInits, maxOthers, slots}
+use Rattle.sets.specs.Mask.{slots}
+use Rattle.format.specs.Limits.{maxBytes, maxInits, maxOthers}
 use Rattle.format.specs.Execution.{Execution, inits}
 use Rattle.format.specs.Field.{tagAt, nextAt, fieldPlace}
 use Rattle.format.specs.Layout.{rowGap, pairGap}

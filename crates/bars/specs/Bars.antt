@@ -1,8 +1,8 @@
--- Bars over the tables, by masks; the sets of equal ranges stand in crate ranges. Laws: proofs/BarsLaws.antt.
+-- Bars over the tables, by masks; the sets of equal ranges stand in crate alike. Laws: proofs/BarsLaws.antt.
 --     reasonsIn                 the sets of (a), (b), (c) together, of the two ends' shapes, sets and places in happens-before
 --     maskIn t eq succ pred r   the set of the events V that the row r bars
 --     barsIn t eq succ pred q n bars     the masks bars, with the bars of the first n rows of q: at v * slots + w the readers gained
---     filledIn t n succ pred q m bars    the same by the sets that ranges' equalsIn has
+--     filledIn t n succ pred q m bars    the same by the sets that alike's equalsIn has
 --     rowBarsIn t n succ pred r v        what a row bars, of one event, as a test: 01's (a), (b), (c)
 -- Assumes nothing.
 use mathlib.Core.Bool.{Bool, cond}

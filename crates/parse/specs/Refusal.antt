@@ -58,7 +58,7 @@ pub data Blames (s : List ℕ) (k : ℕ) : ℕ → Type 0 where
   tag : WrongTag s k → Blames s k 3
   -- "4 length wrong for the field"
   long : (Long (soFar s k .head .edition) (tagNo s k) (valueNo s k) → ⊥) → Blames s k 4
-  -- "5, 6, 7, 8 content of head, event, row, pair": 01's sentences on it, specs/Content.antt
+  -- "5, 6, 7, 8 content of head, event, row, pair": 01's sentences on it, crates/content/specs/Content.antt
   of-head : tagNo s k ≡ 1 → headFits (headOf (editionOf (valueNo s k)) (valueNo s k)) ≡ false → Blames s k 5
   of-event : tagNo s k ≡ 2 → eventFits (soFar s k .head) (soFar s k .events) (agentOf (valueNo s k)) (shapeOf (soFar s k .head .edition) (valueNo s k)) ≡ false → Blames s k 6
   of-row : tagNo s k ≡ 3 → rowFits (soFar s k .events) (soFar s k .rows) (rowOf (soFar s k .head .edition) (valueNo s k)) ≡ false → Blames s k 7

@@ -1,7 +1,7 @@
 -- The laws of specs/steps/Between.antt: the counts with a field taken stand for the state behind it; the loop over the fields. Assumes nothing.
 --     ready-next, event-few, row-few, pair-few     what the code needs to take a field
 --     head-taken, event-taken, row-taken, pair-taken     a field taken, by its tag
---     Turn, turn-start, turn-end, turn-fault, turn-ready, turn-next     the loop's invariant
+--     Turn, turn-start, turn-through, turn-fault, turn-ready, turn-next     the loop's invariant
 use Prim.Native.Nat.{ℕ, zero, suc, _+_, _*_, _-_, _≤_, _<_}
 use mathlib.Core.Path.{_≡_, refl, sym, ap, _∙_, subst}
 use mathlib.Core.Logic.{_⊎_, ⊎-elim}
@@ -14,7 +14,7 @@ use lib.Dec.{eqb}
 use lib.ListN.{length, getD, take, drop, set, replicate, length-set}
 use lib.Seq.{take-suc-set, drop-set-lt, drop-drop, getD-set-same, getD-set-other}
 use Rattle.basis.specs.Test.{number}
-use Rattle.basis.proofs.LoopLaws.{number-snoc, number-both}
+use Rattle.basis.proofs.LoopLaws.{number-snoc}
 use Rattle.format.specs.declared.Head.{Head}
 use Rattle.format.specs.declared.Row.{Row}
 use Rattle.format.specs.declared.Pair.{Pair}
@@ -30,9 +30,11 @@ use Rattle.parse.specs.Parse.{State, refused, placeOf, faultAt, taken, after, f
 use Rattle.parse.proofs.ParseLaws.{event-passed, inside, was-none, was-2, was-3, was-4, event-clean, row-length, pair-length, at-start, at-end, at-fault, at-next}
 use Rattle.entries.specs.declared.Counts.{Counts}
 use Rattle.entries.specs.Entries.{spaced, eventAt, rowAt, pairAt, eventsOn, rowsOn, pairsOn, eventsIn}
-use Rattle.entries.proofs.EntriesLaws.{events-count, spaced-more}
+use Rattle.entries.proofs.EntriesLaws.{spaced-more}
+use Rattle.faults.specs.Faults.{view, Counted, faultIn}
+use Rattle.faults.proofs.FaultsLaws.{others-count, inits-fit, fault-in}
 use Rattle.sheet.specs.Handed.{blankCounts, blankPlaces}
-use Rattle.sheet.specs.steps.Between.{view, Counted, Between, Ready, Advanced, withHead, withEvent, withRow, withPair, Through}
+use Rattle.sheet.specs.steps.Between.{Between, Ready, Advanced, withHead, withEvent, withRow, withPair, Through}
 use Rattle.sheet.proofs.TakenLaws.{value-event, value-row, value-pair}
 
 -- ---- lists, one thing more
@@ -95,18 +97,6 @@ unused-more at n m p h e =
 pub counted-of : (s : List ℕ) (p last : ℕ) (x : Counts) (at : List ℕ) → Between s p last x at → Counted s x at
 counted-of s p last x at b =
     record { room = let z = b .size in let i = b .few-inits in let o = b .few-others in omega arith; inits = b .inits }
-
--- the events that are no inits
-module _ (s : List ℕ) (x : Counts) (at : List ℕ) (k : Counted s x at) where
-  inits-others : x .inits + others (eventsIn s x at) ≡ x .events
-  unfolding inits others
-  inits-others = rw (k .inits) (number-both isInit (eventsIn s x at) ∙ events-count s (x .head .edition) (x .events) at (k .room))
-
-  pub others-count : others (eventsIn s x at) ≡ x .events - x .inits
-  others-count = let e = inits-others in omega arith
-
-  pub inits-fit : x .inits ≤ x .events
-  inits-fit = let e = inits-others in omega arith
 
 module _ (s : List ℕ) (p last : ℕ) (x : Counts) (at : List ℕ) (r : Ready s p last x at) where
   abbrev b : Between s p last x at
@@ -338,20 +328,25 @@ module _ (s : List ℕ) (p last : ℕ) (x : Counts) (at : List ℕ) (t : Turn s 
         short = t .short;
       }
 
-  pub turn-fault : (n : ℕ) → p < length s → faultAt s p (view s last x at) ≡ n → (n ≡ 0 → ⊥) → parse s ≡ refused n (placeOf n p)
-  turn-fault n h e d = t .goes ∙ at-fault s (t .fuel) p (view s last x at) n h e d
+  -- the counts are right, so the fault that they tell is parse's
+  turn-told : (n : ℕ) → faultIn s p last x at ≡ n → faultAt s p (view s last x at) ≡ n
+  turn-told n e = sym (fault-in s x at (counted-of s p last x at (t .between)) p last) ∙ e
 
-  pub turn-ready : faultAt s p (view s last x at) ≡ 0 → Ready s p last x at
-  turn-ready e = record { between = t .between; short = t .short; clean = e }
+  pub turn-fault : (n : ℕ) → p < length s → faultIn s p last x at ≡ n → (n ≡ 0 → ⊥) → parse s ≡ refused n (placeOf n p)
+  turn-fault n h e d = t .goes ∙ at-fault s (t .fuel) p (view s last x at) n h (turn-told n e) d
 
-  pub turn-next : (y : Counts) (at′ : List ℕ) → p < length s → faultAt s p (view s last x at) ≡ 0 → Advanced s p last x at y at′ → Turn s (nextAt s p) (tagAt s p) y at′
+  pub turn-ready : faultIn s p last x at ≡ 0 → Ready s p last x at
+  turn-ready e = record { between = t .between; short = t .short; clean = turn-told 0 e }
+
+  pub turn-next : (y : Counts) (at′ : List ℕ) → p < length s → faultIn s p last x at ≡ 0 → Advanced s p last x at y at′ → Turn s (nextAt s p) (tagAt s p) y at′
   turn-next y at′ h e a =
       let k = t .enough in
+      let f = turn-told 0 e in
       record {
         fuel = t .fuel - 1;
-        goes = t .goes ∙ at-next s (t .fuel) p (view s last x at) h k e ∙ ap (fieldsFrom s (suc (t .fuel - 1)) (nextAt s p)) (sym (a .seen));
+        goes = t .goes ∙ at-next s (t .fuel) p (view s last x at) h k f ∙ ap (fieldsFrom s (suc (t .fuel - 1)) (nextAt s p)) (sym (a .seen));
         enough = omega arith;
-        within-s = inside s p (view s last x at) e;
+        within-s = inside s p (view s last x at) f;
         short = t .short;
         between = a .between;
       }

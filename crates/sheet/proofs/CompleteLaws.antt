@@ -15,9 +15,10 @@ use Rattle.parse.proofs.ParseLaws.{finished-whole}
 use Rattle.entries.specs.declared.Counts.{Counts}
 use Rattle.entries.specs.Entries.{execution}
 use Rattle.entries.proofs.EntriesLaws.{events-count}
+use Rattle.faults.specs.Faults.{view, Counted}
 use Rattle.sheet.specs.declared.Outcome.{Outcome}
 use Rattle.sheet.specs.Handed.{Laid, Handed, HandedWhole}
-use Rattle.sheet.specs.steps.Between.{view, Counted, Through, refusal}
+use Rattle.sheet.specs.steps.Between.{Through, refusal}
 
 -- what a whole sheet's counts and places are
 pub laid-of : (s : List ℕ) (last : ℕ) (x : Counts) (at : List ℕ) → Through s last x at → (last ≡ 0 → ⊥) → Laid s x at

@@ -2,7 +2,6 @@
 use entries::Counts;
 use sets::SLOTS;
 
-mod fault;
 pub mod reader;
 
 pub enum Reading {

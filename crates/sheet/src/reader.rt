@@ -2,7 +2,6 @@
 use crate::Outcome;
 use crate::Reading;
 use crate::Scan;
-use crate::fault;
 use entries::Counts;
 use format::Head;
 use format::MAX_BYTES;
@@ -19,7 +18,8 @@ ghost use Rattle.format.specs.Field.{nextAt};
 ghost use Rattle.parse.specs.Parse.{finish};
 ghost use Rattle.entries.specs.Entries.{execution};
 ghost use Rattle.sheet.specs.Handed.{blankCounts, Handed};
-ghost use Rattle.sheet.specs.steps.Between.{view, Ready, Advanced, withHead, withEvent, withRow, withPair, Through, Scanned, parsedOf, refusal};
+ghost use Rattle.faults.specs.Faults.{view};
+ghost use Rattle.sheet.specs.steps.Between.{Ready, Advanced, withHead, withEvent, withRow, withPair, Through, Scanned, parsedOf, refusal};
 
 // ---- the counts behind a field
 
@@ -153,9 +153,9 @@ fn fields(s: &[u8], at: &mut [u16]) -> Scan
     let mut last: u8 = 0;
     let mut p: u16 = 0;
     while (p as usize) < s.len() {
-        let n = fault::fault_at(s, p, last, x, at);
+        let n = faults::fault_at(s, p, last, x, at);
         if n != 0 {
-            return Scan::Stopped(n, fault::place_of(n, p));
+            return Scan::Stopped(n, faults::place_of(n, p));
         }
         let next = next_at(s, p);
         x = after(s, p, last, x, at);
@@ -182,7 +182,7 @@ fn finish(s: &[u8], last: u8, x: Counts, at: &[u16]) -> Reading
     let lack = lacking::lowest_lacking(s, x, at);
     match lack {
         Lack::Nothing => Reading::Whole,
-        Lack::Event(e) => Reading::Refused(11, fault::place_of(11, entries::place_of(at, e))),
+        Lack::Event(e) => Reading::Refused(11, faults::place_of(11, entries::place_of(at, e))),
     }
 }
 

@@ -1,6 +1,5 @@
 -- What the reader keeps between two fields, and what it means: the contracts of its own functions, no part of what it promises.
---     view                          the state of crates/parse/specs/Parse.antt that the last tag, the counts and the places stand for
---     Counted, Between              what holds of the counts and places at place p
+--     Between                       what holds of the counts and places at place p
 --     Ready, Advanced               a field without a fault is at hand; it has been taken
 --     Scanned                       what is known when the fields are through
 -- Assumes nothing.
@@ -9,7 +8,7 @@ use mathlib.Core.Bool.{cond}
 use mathlib.Core.List.{List}
 use Prim.Native.Nat.{ℕ, suc, _+_, _-_, _*_, _<_, _≤_}
 use lib.Dec.{eqb}
-use lib.ListN.{length, getD, take, drop, replicate}
+use lib.ListN.{length, getD, drop, replicate}
 use Rattle.format.specs.declared.Head.{Head}
 use Rattle.sets.specs.Mask.{slots}
 use Rattle.format.specs.Limits.{maxBytes, maxInits, maxOthers}
@@ -21,18 +20,11 @@ use Rattle.sheet.specs.declared.Reading.the-variants.{Refused, Whole}
 use Rattle.sheet.specs.declared.Scan.{Scan}
 use Rattle.sheet.specs.declared.Scan.the-variants.{Stopped, Ended}
 use Rattle.sheet.specs.declared.Outcome.{Outcome}
-use Rattle.parse.specs.Parse.{Parsed, refused, whole, State, faultAt, after, finish, parse}
+use Rattle.parse.specs.Parse.{Parsed, refused, whole, faultAt, after, finish, parse}
 use Rattle.entries.specs.declared.Counts.{Counts}
-use Rattle.entries.specs.Entries.{eventsIn, execution}
+use Rattle.entries.specs.Entries.{eventsIn}
+use Rattle.faults.specs.Faults.{view}
 use Rattle.sheet.specs.Handed.{blankCounts, blankPlaces}
-
-abbrev pub view : List ℕ → ℕ → Counts → List ℕ → State
-view s last x at = record { tag = last; places = take (x .events) at; got = execution s x at }
-
--- the places hold the events so far, and their inits are counted
-pub record Counted (s : List ℕ) (x : Counts) (at : List ℕ) : Type 0 where
-  pub room : x .events ≤ length at
-  pub inits : x .inits ≡ inits (eventsIn s x at)
 
 -- at place p, behind a field with the tag `last` (0 for none)
 pub record Between (s : List ℕ) (p last : ℕ) (x : Counts) (at : List ℕ) : Type 0 where

@@ -1,8 +1,8 @@
 -- `sheet::reader::after` meets its contract: a field taken, by its tag; the tests of the field leave no other. Assumes nothing.
 use mathlib.Core.Path.{sym, _∙_}
 use denote.Ref.{now}
-use Rattle.sheet.specs.steps.Between.{view}
 use Rattle.parse.proofs.ParseLaws.{known}
+use Rattle.faults.specs.Faults.{view}
 use Rattle.sheet.proofs.BetweenLaws.{ready-next, event-few, row-few, pair-few, head-taken, event-taken, row-taken, pair-taken}
 use borrow.Author.Needs.{needs}
 use Rattle.sheet.proofs.reader.after.Statement.{statement}

@@ -5,7 +5,7 @@ use Prim.Native.Nat.{_-_}
 use denote.Ref.{now}
 use native.Mathlib.Omega.{arith}
 use lib.ListN.{length}
-use Rattle.sheet.proofs.BetweenLaws.{Turn, turn-start, turn-through, turn-fault, turn-ready, turn-next, counted-of, ready-next}
+use Rattle.sheet.proofs.BetweenLaws.{Turn, turn-start, turn-through, turn-fault, turn-ready, turn-next, ready-next}
 use borrow.Author.Needs.{needs}
 use Rattle.sheet.proofs.reader.fields.Statement.{statement}
 use Rattle.sheet.proofs.reader.fields.Tie as tie
@@ -26,7 +26,7 @@ cast-loop : tie.Need-cast-loop Inv-loop μ-loop
 cast-loop c = omega arith
 
 fault-at-requires : tie.Need-fault-at-requires Inv-loop μ-loop
-fault-at-requires c κs = counted-of _ _ _ _ _ (c .before .before .loop .inv .between)
+fault-at-requires c κs = search needs
 
 place-of-requires : tie.Need-place-of-requires Inv-loop μ-loop
 place-of-requires c κs = search needs
@@ -41,7 +41,7 @@ next-at-requires : tie.Need-next-at-requires Inv-loop μ-loop
 next-at-requires c κs = let l = c .before .before .before .before .loop in ready-next (now (c .before .before .before .before .before .before .before .before .args .s)) (l .p) (l .last) (l .x) (l .at) (turn-ready (now (c .before .before .before .before .before .before .before .before .args .s)) (l .p) (l .last) (l .x) (l .at) (l .inv) (sym (c .before .fault-at .ensures) ∙ c .if1 .left))
 
 after-requires : tie.Need-after-requires Inv-loop μ-loop
-after-requires c κs = search needs
+after-requires c κs = turn-ready (now (c .before .before .before .before .before .before .before .before .before .before .args .s)) (c .before .before .before .before .before .before .loop .p) (c .before .before .before .before .before .before .loop .last) (c .before .before .before .before .before .before .loop .x) (c .before .before .before .before .before .before .loop .at) (c .before .before .before .before .before .before .loop .inv) (sym (c .before .before .before .fault-at .ensures) ∙ c .before .before .if1 .left)
 
 cast-byte : tie.Need-cast-byte Inv-loop μ-loop
 cast-byte c = search needs

@@ -1,10 +1,10 @@
--- `sheet::fault::pair_fault` meets its contract, test by test. Assumes nothing.
+-- `faults::pair_fault` meets its contract, test by test. Assumes nothing.
 use Rattle.basis.specs.Test.{non}
 use Rattle.parse.specs.Parse.{pairFault}
 use Rattle.entries.proofs.EntriesLaws.{pairs-count}
 use borrow.Author.Needs.{needs}
-use Rattle.sheet.proofs.fault.pair_fault.Statement.{statement}
-use Rattle.sheet.proofs.fault.pair_fault.Tie as tie
+use Rattle.faults.proofs.pair_fault.Statement.{statement}
+use Rattle.faults.proofs.pair_fault.Tie as tie
 
 cast-long : tie.Need-cast-long
 cast-long c = search needs

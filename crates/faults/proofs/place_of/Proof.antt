@@ -1,8 +1,8 @@
--- `sheet::fault::place_of` meets its contract by computation. Assumes nothing.
+-- `faults::place_of` meets its contract by computation. Assumes nothing.
 use mathlib.Core.Path.{refl}
 use Rattle.parse.specs.Parse.{placeOf}
-use Rattle.sheet.proofs.fault.place_of.Statement.{statement}
-use Rattle.sheet.proofs.fault.place_of.Tie as tie
+use Rattle.faults.proofs.place_of.Statement.{statement}
+use Rattle.faults.proofs.place_of.Tie as tie
 
 returns : tie.Need-returns
 unfolding placeOf

@@ -1,9 +1,9 @@
--- `sheet::fault::row_fault` meets its contract, test by test. Assumes nothing.
+-- `faults::row_fault` meets its contract, test by test. Assumes nothing.
 use Rattle.basis.specs.Test.{non}
 use Rattle.parse.specs.Parse.{rowFault}
 use borrow.Author.Needs.{needs}
-use Rattle.sheet.proofs.fault.row_fault.Statement.{statement}
-use Rattle.sheet.proofs.fault.row_fault.Tie as tie
+use Rattle.faults.proofs.row_fault.Statement.{statement}
+use Rattle.faults.proofs.row_fault.Tie as tie
 
 row-bytes-requires : tie.Need-row-bytes-requires
 row-bytes-requires c κs = search needs

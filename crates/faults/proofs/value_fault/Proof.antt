@@ -1,15 +1,16 @@
--- `sheet::fault::value_fault` meets its contract, tag by tag. Assumes nothing.
+-- `faults::value_fault` meets its contract, tag by tag. Assumes nothing.
 use borrow.Author.Tests.{ne-eqb}
 use Rattle.parse.specs.Parse.{valueFault}
+use Rattle.faults.specs.Faults.{valueFaultIn}
 use borrow.Author.Needs.{needs}
-use Rattle.sheet.proofs.fault.value_fault.Statement.{statement}
-use Rattle.sheet.proofs.fault.value_fault.Tie as tie
+use Rattle.faults.proofs.value_fault.Statement.{statement}
+use Rattle.faults.proofs.value_fault.Tie as tie
 
 head-fault-requires : tie.Need-head-fault-requires
 head-fault-requires c κs = search needs
 
 event-fault-requires : tie.Need-event-fault-requires
-event-fault-requires c κs = c .before .before .before .before .pre
+event-fault-requires c κs = search needs
 
 row-fault-requires : tie.Need-row-fault-requires
 row-fault-requires c κs = search needs
@@ -18,23 +19,23 @@ pair-fault-requires : tie.Need-pair-fault-requires
 pair-fault-requires c κs = search needs
 
 returns : tie.Need-returns
-unfolding valueFault
+unfolding valueFaultIn valueFault
 returns c = simp (c .before .match .keys1, c .head-fault .ensures)
 
 returns-2 : tie.Need-returns-2
-unfolding valueFault
+unfolding valueFaultIn valueFault
 returns-2 c = simp (c .before .match .keys2, c .event-fault .ensures)
 
 returns-3 : tie.Need-returns-3
-unfolding valueFault
+unfolding valueFaultIn valueFault
 returns-3 c = simp (c .before .match .keys3, c .row-fault .ensures)
 
 returns-4 : tie.Need-returns-4
-unfolding valueFault
+unfolding valueFaultIn valueFault
 returns-4 c = simp (c .before .match .keys4, c .pair-fault .ensures)
 
 returns-5 : tie.Need-returns-5
-unfolding valueFault
+unfolding valueFaultIn valueFault
 returns-5 c = simp (ne-eqb _ _ (c .match .rest .0 .0 .0 .1), ne-eqb _ _ (c .match .rest .0 .0 .1), ne-eqb _ _ (c .match .rest .0 .1), ne-eqb _ _ (c .match .rest .1))
 
 pub value-fault-spec : {M : Type 1} → statement M

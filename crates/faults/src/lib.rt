@@ -1,16 +1,17 @@
-// The first fault of a field: its refusal's number, 0 for none.
+// The first fault of a field, by the counts and places of what stands before it: its refusal's number, 0 for none; and the refusal's place.
 use entries::Counts;
 use format::MAX_PAIRS;
 use format::field;
 use format::field::FIELD_BYTES;
 use sizes::PAIR_BYTES;
 ghost use mathlib.Core.Path.{_≡_};
-ghost use Rattle.parse.specs.Parse.{placeOf, allowed, headFault, eventFault, rowFault, pairFault, valueFault, faultAt};
-ghost use Rattle.entries.specs.Entries.{eventsIn, rowsIn, pairsIn, execution};
-ghost use Rattle.sheet.specs.steps.Between.{view, Counted};
+ghost use Prim.Native.Nat.{_-_};
+ghost use Rattle.parse.specs.Parse.{placeOf, allowed, headFault, rowFault, pairFault};
+ghost use Rattle.entries.specs.Entries.{eventsIn, rowsIn, pairsIn};
+ghost use Rattle.faults.specs.Faults.{eventFaultIn, valueFaultIn, faultIn};
 
 // The place of a refusal of a field, from its number and the place of the tag: made here and nowhere else.
-pub(crate) fn place_of(number: u8, tag: u16) -> u32
+pub fn place_of(number: u8, tag: u16) -> u32
     ensures { λ r. ⌜ r ≡ placeOf number tag ⌝ }
 {
     tag as u32
@@ -43,9 +44,18 @@ fn head_fault(v: &[u8]) -> u8
     0
 }
 
+// The events that are no inits, as counted; none where the inits are more.
+fn others(x: Counts) -> u8
+    ensures { λ r. ⌜ r ≡ x .events - x .inits ⌝ }
+{
+    if x.inits < x.events {
+        return x.events - x.inits;
+    }
+    0
+}
+
 fn event_fault(s: &[u8], x: Counts, at: &[u16], v: &[u8]) -> u8
-    requires { ⌜ Counted (now s) x (now at) ⌝ }
-    ensures { λ r. ⌜ r ≡ eventFault (x .head) (eventsIn (now (s .entry)) x (now (at .entry))) (now (v .entry)) ⌝ }
+    ensures { λ r. ⌜ r ≡ eventFaultIn (now (s .entry)) x (now (at .entry)) (now (v .entry)) ⌝ }
 {
     let least = sizes::event_bytes(x.head.edition) as usize;
     let short = v.len() < least;
@@ -62,7 +72,7 @@ fn event_fault(s: &[u8], x: Counts, at: &[u16], v: &[u8]) -> u8
     if !exact {
         return 4;
     }
-    let room = limits::room_for(x.inits, x.events - x.inits, agent);
+    let room = limits::room_for(x.inits, others(x), agent);
     if !room {
         return 9;
     }
@@ -102,8 +112,7 @@ fn pair_fault(s: &[u8], x: Counts, at: &[u16], v: &[u8]) -> u8
 }
 
 fn value_fault(s: &[u8], x: Counts, at: &[u16], tag: u8, v: &[u8]) -> u8
-    requires { ⌜ Counted (now s) x (now at) ⌝ }
-    ensures { λ r. ⌜ r ≡ valueFault (execution (now (s .entry)) x (now (at .entry))) tag (now (v .entry)) ⌝ }
+    ensures { λ r. ⌜ r ≡ valueFaultIn (now (s .entry)) x (now (at .entry)) tag (now (v .entry)) ⌝ }
 {
     match tag {
         1 => head_fault(v),
@@ -115,9 +124,8 @@ fn value_fault(s: &[u8], x: Counts, at: &[u16], tag: u8, v: &[u8]) -> u8
 }
 
 // The number of the refusal of the field at p; 0 where there is none.
-pub(crate) fn fault_at(s: &[u8], p: u16, last: u8, x: Counts, at: &[u16]) -> u8
-    requires { ⌜ Counted (now s) x (now at) ⌝ }
-    ensures { λ r. ⌜ r ≡ faultAt (now (s .entry)) p (view (now (s .entry)) last x (now (at .entry))) ⌝ }
+pub fn fault_at(s: &[u8], p: u16, last: u8, x: Counts, at: &[u16]) -> u8
+    ensures { λ r. ⌜ r ≡ faultIn (now (s .entry)) p last x (now (at .entry)) ⌝ }
 {
     let place = p as usize;
     let stub = s.len() < place + FIELD_BYTES;

@@ -1,9 +1,9 @@
--- `sheet::fault::allowed` meets its contract, tag by tag. Assumes nothing.
+-- `faults::allowed` meets its contract, tag by tag. Assumes nothing.
 use borrow.Author.Tests.{ne-eqb}
 use Rattle.parse.specs.Parse.{allowed}
 use borrow.Author.Needs.{needs}
-use Rattle.sheet.proofs.fault.allowed.Statement.{statement}
-use Rattle.sheet.proofs.fault.allowed.Tie as tie
+use Rattle.faults.proofs.allowed.Statement.{statement}
+use Rattle.faults.proofs.allowed.Tie as tie
 
 within-requires : tie.Need-within-requires
 within-requires c κs = search needs

@@ -1,9 +1,9 @@
--- `sheet::fault::head_fault` meets its contract, test by test. Assumes nothing.
+-- `faults::head_fault` meets its contract, test by test. Assumes nothing.
 use Rattle.basis.specs.Test.{non}
 use Rattle.parse.specs.Parse.{headFault}
 use borrow.Author.Needs.{needs}
-use Rattle.sheet.proofs.fault.head_fault.Statement.{statement}
-use Rattle.sheet.proofs.fault.head_fault.Tie as tie
+use Rattle.faults.proofs.head_fault.Statement.{statement}
+use Rattle.faults.proofs.head_fault.Tie as tie
 
 byte-requires : tie.Need-byte-requires
 byte-requires c κs = search needs

@@ -1,7 +1,7 @@
 -- The laws of specs/steps/Between.antt: the counts with a field taken stand for the state behind it; the loop over the fields. Assumes nothing.
 --     ready-next, event-few, row-few, pair-few     what the code needs to take a field
 --     head-taken, event-taken, row-taken, pair-taken     a field taken, by its tag
---     Turn, turn-start, turn-through, turn-fault, turn-ready, turn-next     the loop's invariant
+--     Turn, turn-start, turn-through, turn-fault, turn-ready, turn-reach, turn-next     the loop's invariant
 use Prim.Native.Nat.{ℕ, zero, suc, _+_, _*_, _-_, _≤_, _<_}
 use mathlib.Core.Path.{_≡_, refl, sym, ap, _∙_, subst}
 use mathlib.Core.Logic.{_⊎_, ⊎-elim}
@@ -329,19 +329,23 @@ module _ (s : List ℕ) (p last : ℕ) (x : Counts) (at : List ℕ) (t : Turn s 
       }
 
   -- the counts are right, so the fault that they tell is parse's
-  turn-told : (n : ℕ) → faultIn s p last x at ≡ n → faultAt s p (view s last x at) ≡ n
-  turn-told n e = sym (fault-in s x at (counted-of s p last x at (t .between)) p last) ∙ e
+  turn-told : (n : ℕ) → n ≡ faultIn s p last x at → faultAt s p (view s last x at) ≡ n
+  turn-told n e = sym (e ∙ fault-in s x at (counted-of s p last x at (t .between)) p last)
 
-  pub turn-fault : (n : ℕ) → p < length s → faultIn s p last x at ≡ n → (n ≡ 0 → ⊥) → parse s ≡ refused n (placeOf n p)
+  pub turn-fault : (n : ℕ) → p < length s → n ≡ faultIn s p last x at → (n ≡ 0 → ⊥) → parse s ≡ refused n (placeOf n p)
   turn-fault n h e d = t .goes ∙ at-fault s (t .fuel) p (view s last x at) n h (turn-told n e) d
 
-  pub turn-ready : faultIn s p last x at ≡ 0 → Ready s p last x at
-  turn-ready e = record { between = t .between; short = t .short; clean = turn-told 0 e }
+  pub turn-ready : (n : ℕ) → n ≡ faultIn s p last x at → n ≡ 0 → Ready s p last x at
+  turn-ready n e z = record { between = t .between; short = t .short; clean = turn-told n e ∙ z }
 
-  pub turn-next : (y : Counts) (at′ : List ℕ) → p < length s → faultIn s p last x at ≡ 0 → Advanced s p last x at y at′ → Turn s (nextAt s p) (tagAt s p) y at′
-  turn-next y at′ h e a =
+  pub turn-reach : (n : ℕ) → n ≡ faultIn s p last x at → n ≡ 0 → nextAt s p ≤ maxBytes
+  turn-reach n e z = ready-next s p last x at (turn-ready n e z)
+
+  pub turn-next : (y : Counts) (at′ : List ℕ) (n : ℕ) → p < length s → n ≡ faultIn s p last x at → n ≡ 0 → Advanced s p last x at y at′
+      → Turn s (nextAt s p) (tagAt s p) y at′
+  turn-next y at′ n h e z a =
       let k = t .enough in
-      let f = turn-told 0 e in
+      let f = turn-told n e ∙ z in
       record {
         fuel = t .fuel - 1;
         goes = t .goes ∙ at-next s (t .fuel) p (view s last x at) h k f ∙ ap (fieldsFrom s (suc (t .fuel - 1)) (nextAt s p)) (sym (a .seen));

@@ -5,7 +5,7 @@ use Prim.Native.Nat.{_-_}
 use denote.Ref.{now}
 use native.Mathlib.Omega.{arith}
 use lib.ListN.{length}
-use Rattle.sheet.proofs.BetweenLaws.{Turn, turn-start, turn-through, turn-fault, turn-ready, turn-next, ready-next}
+use Rattle.sheet.proofs.BetweenLaws.{Turn, turn-start, turn-through, turn-fault, turn-ready, turn-reach, turn-next}
 use borrow.Author.Needs.{needs}
 use Rattle.sheet.proofs.reader.fields.Statement.{statement}
 use Rattle.sheet.proofs.reader.fields.Tie as tie
@@ -35,13 +35,13 @@ same-length : tie.Need-same-length Inv-loop μ-loop
 same-length c = c .before .before .before .before .before .loop .inv .between .size ∙ sym (ap length (c .before .before .before .before .before .before .before .before .before .pre .1))
 
 returns : tie.Need-returns Inv-loop μ-loop
-returns c = rw (c .place-of .ensures) (turn-fault (now (c .before .before .before .before .before .before .before .before .before .args .s)) (c .before .before .before .before .before .loop .p) (c .before .before .before .before .before .loop .last) (c .before .before .before .before .before .loop .x) (c .before .before .before .before .before .loop .at) (c .before .before .before .before .before .loop .inv) _ (c .before .before .before .before .loop-test .taken) (sym (c .before .before .fault-at .ensures)) (c .before .if1 .taken))
+returns c = rw (c .place-of .ensures) (turn-fault (now (c .before .before .before .before .before .before .before .before .before .args .s)) (c .before .before .before .before .before .loop .p) (c .before .before .before .before .before .loop .last) (c .before .before .before .before .before .loop .x) (c .before .before .before .before .before .loop .at) (c .before .before .before .before .before .loop .inv) _ (c .before .before .before .before .loop-test .taken) (c .before .before .fault-at .ensures) (c .before .if1 .taken))
 
 next-at-requires : tie.Need-next-at-requires Inv-loop μ-loop
-next-at-requires c κs = let l = c .before .before .before .before .loop in ready-next (now (c .before .before .before .before .before .before .before .before .args .s)) (l .p) (l .last) (l .x) (l .at) (turn-ready (now (c .before .before .before .before .before .before .before .before .args .s)) (l .p) (l .last) (l .x) (l .at) (l .inv) (sym (c .before .fault-at .ensures) ∙ c .if1 .left))
+next-at-requires c κs = turn-reach (now (c .before .before .before .before .before .before .before .before .args .s)) (c .before .before .before .before .loop .p) (c .before .before .before .before .loop .last) (c .before .before .before .before .loop .x) (c .before .before .before .before .loop .at) (c .before .before .before .before .loop .inv) _ (c .before .fault-at .ensures) (c .if1 .left)
 
 after-requires : tie.Need-after-requires Inv-loop μ-loop
-after-requires c κs = turn-ready (now (c .before .before .before .before .before .before .before .before .before .before .args .s)) (c .before .before .before .before .before .before .loop .p) (c .before .before .before .before .before .before .loop .last) (c .before .before .before .before .before .before .loop .x) (c .before .before .before .before .before .before .loop .at) (c .before .before .before .before .before .before .loop .inv) (sym (c .before .before .before .fault-at .ensures) ∙ c .before .before .if1 .left)
+after-requires c κs = turn-ready (now (c .before .before .before .before .before .before .before .before .before .before .args .s)) (c .before .before .before .before .before .before .loop .p) (c .before .before .before .before .before .before .loop .last) (c .before .before .before .before .before .before .loop .x) (c .before .before .before .before .before .before .loop .at) (c .before .before .before .before .before .before .loop .inv) _ (c .before .before .before .fault-at .ensures) (c .before .before .if1 .left)
 
 cast-byte : tie.Need-cast-byte Inv-loop μ-loop
 cast-byte c = search needs
@@ -53,7 +53,7 @@ loop-less : tie.Need-loop-less Inv-loop μ-loop
 loop-less c = search needs
 
 loop-again : tie.Need-loop-again Inv-loop μ-loop
-loop-again c = rw (c .byte .ensures, c .before .before .before .before .before .next-at .ensures) (turn-next (now (c .before .before .before .before .before .before .before .before .before .before .before .before .before .before .args .s)) (c .before .before .before .before .before .before .before .before .before .before .loop .p) (c .before .before .before .before .before .before .before .before .before .before .loop .last) (c .before .before .before .before .before .before .before .before .before .before .loop .x) (c .before .before .before .before .before .before .before .before .before .before .loop .at) (c .before .before .before .before .before .before .before .before .before .before .loop .inv) (c .before .before .before .after .result) _ (c .before .before .before .before .before .before .before .before .before .loop-test .taken) (sym (c .before .before .before .before .before .before .before .fault-at .ensures) ∙ c .before .before .before .before .before .before .if1 .left) (c .before .before .before .after .ensures))
+loop-again c = rw (c .byte .ensures, c .before .before .before .before .before .next-at .ensures) (turn-next (now (c .before .before .before .before .before .before .before .before .before .before .before .before .before .before .args .s)) (c .before .before .before .before .before .before .before .before .before .before .loop .p) (c .before .before .before .before .before .before .before .before .before .before .loop .last) (c .before .before .before .before .before .before .before .before .before .before .loop .x) (c .before .before .before .before .before .before .before .before .before .before .loop .at) (c .before .before .before .before .before .before .before .before .before .before .loop .inv) (c .before .before .before .after .result) _ _ (c .before .before .before .before .before .before .before .before .before .loop-test .taken) (c .before .before .before .before .before .before .before .fault-at .ensures) (c .before .before .before .before .before .before .if1 .left) (c .before .before .before .after .ensures))
 
 same-length-2 : tie.Need-same-length-2 Inv-loop μ-loop
 same-length-2 c = c .before .loop .inv .between .size ∙ sym (ap length (c .before .before .before .before .before .pre .1))

@@ -1,6 +1,5 @@
 -- The laws of specs/Faults.antt: where the events are counted, the counts tell parse's own fault. Assumes nothing.
 --     others-count, inits-fit       the events that are no inits; the inits are among the events
---     event-fault-in, value-fault-in     of an event's value, of a value
 --     fault-in                      of a field: faultIn s p last x at ≡ faultAt s p (view s last x at)
 use Prim.Native.Nat.{ℕ, _+_, _-_, _≤_}
 use mathlib.Core.Path.{_≡_, refl, _∙_}
@@ -30,11 +29,11 @@ module _ (s : List ℕ) (x : Counts) (at : List ℕ) (k : Counted s x at) where
   pub inits-fit : x .inits ≤ x .events
   inits-fit = let e = inits-others in omega arith
 
-  pub event-fault-in : (v : List ℕ) → eventFaultIn s x at v ≡ eventFault (x .head) (eventsIn s x at) v
+  event-fault-in : (v : List ℕ) → eventFaultIn s x at v ≡ eventFault (x .head) (eventsIn s x at) v
   unfolding eventFaultIn eventFault
   event-fault-in v = simp (← k .inits, others-count)
 
-  pub value-fault-in : (tag : ℕ) (v : List ℕ) → valueFaultIn s x at tag v ≡ valueFault (execution s x at) tag v
+  value-fault-in : (tag : ℕ) (v : List ℕ) → valueFaultIn s x at tag v ≡ valueFault (execution s x at) tag v
   unfolding valueFaultIn valueFault
   value-fault-in tag v = go (eqb tag 2) refl
     where

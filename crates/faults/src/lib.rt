@@ -6,9 +6,9 @@ use format::field::FIELD_BYTES;
 use sizes::PAIR_BYTES;
 ghost use mathlib.Core.Path.{_≡_};
 ghost use Prim.Native.Nat.{_-_};
-ghost use Rattle.parse.specs.Parse.{placeOf, allowed, headFault, rowFault, pairFault};
-ghost use Rattle.entries.specs.Entries.{eventsIn, rowsIn, pairsIn};
-ghost use Rattle.faults.specs.Faults.{eventFaultIn, valueFaultIn, faultIn};
+ghost use Rattle.parse.specs.Parse.{placeOf, allowed, headFault, eventFaultBy, rowFault, pairFault, valueFaultBy};
+ghost use Rattle.entries.specs.Entries.{eventsIn, rowsIn, pairsIn, execution};
+ghost use Rattle.faults.specs.Faults.{roomBy, faultIn};
 
 // The place of a refusal of a field, from its number and the place of the tag: made here and nowhere else.
 pub fn place_of(number: u8, tag: u16) -> u32
@@ -55,7 +55,7 @@ fn others(x: Counts) -> u8
 }
 
 fn event_fault(s: &[u8], x: Counts, at: &[u16], v: &[u8]) -> u8
-    ensures { λ r. ⌜ r ≡ eventFaultIn (now (s .entry)) x (now (at .entry)) (now (v .entry)) ⌝ }
+    ensures { λ r. ⌜ r ≡ eventFaultBy (roomBy x) (x .head) (eventsIn (now (s .entry)) x (now (at .entry))) (now (v .entry)) ⌝ }
 {
     let least = sizes::event_bytes(x.head.edition) as usize;
     let short = v.len() < least;
@@ -112,7 +112,7 @@ fn pair_fault(s: &[u8], x: Counts, at: &[u16], v: &[u8]) -> u8
 }
 
 fn value_fault(s: &[u8], x: Counts, at: &[u16], tag: u8, v: &[u8]) -> u8
-    ensures { λ r. ⌜ r ≡ valueFaultIn (now (s .entry)) x (now (at .entry)) tag (now (v .entry)) ⌝ }
+    ensures { λ r. ⌜ r ≡ valueFaultBy (roomBy x) (execution (now (s .entry)) x (now (at .entry))) tag (now (v .entry)) ⌝ }
 {
     match tag {
         1 => head_fault(v),

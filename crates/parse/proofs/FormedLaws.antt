@@ -34,7 +34,7 @@ use Rattle.format.specs.Execution.{Execution, eventNo, event, inits, others, ro
 use Rattle.format.specs.Layout.{editionOf, headBytes, eventBytes, dataBytes, rowBytes, pairBytes, headOf, agentOf, shapeOf, accessOf, eventOf, rowOf, pairOf}
 use Rattle.content.specs.Content.{headFits, inside, formed, alone, standsFirst, eventFits, roomIn, roomFor, joins, rowRises, rowFits, parts, pairRises, pairFits}
 use Rattle.content.proofs.ContentLaws.{SizedFacts, KindFacts, a-read, a-write, both, a-marker, InitFacts, OtherFacts, formed-holds, head-holds}
-use Rattle.parse.specs.Parse.{whole, State, headFault, eventFault, rowFault, pairFault, lacks, lowestLacking, completed, finish}
+use Rattle.parse.specs.Parse.{whole, State, headFault, eventFault, eventFaultBy, rowFault, pairFault, lacks, lowestLacking, completed, finish}
 use Rattle.parse.specs.Promise.{WellEvent, WellFormed, row}
 use Rattle.parse.proofs.LackLaws.{lacks-rowless}
 
@@ -186,7 +186,7 @@ module _ (x : Execution) (w : WellFormed x) where
         go false p = rw p (count-holds before new f (λ (d : Event). non (isInit d)) maxOthers (w .others-few) (non-holds _ p))
 
     pub event-passes : length v ≡ eventBytes (x .head .edition) + dataBytes (shapeOf (x .head .edition) v) → eventFault (x .head) before v ≡ 0
-    unfolding eventFault eventFits alone
+    unfolding eventFaultBy eventFits alone
     event-passes l =
         passed _ _ _ (le-ltb (length v) (eventBytes (x .head .edition)) (omega arith))
         (passed-non _ _ _ (both-hold _ _ inside-formed stands)

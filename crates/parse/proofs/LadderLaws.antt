@@ -20,7 +20,7 @@ use Rattle.format.specs.Field.{fieldBytes, nextAt, fieldPlace}
 use Rattle.format.specs.Layout.{editionOf, headBytes, eventBytes, dataBytes, rowBytes, pairBytes, headOf, agentOf, shapeOf, rowOf, pairOf}
 use Rattle.content.specs.Content.{within, headFits, eventFits, roomIn, roomFor, rowFits, pairFits}
 use Rattle.content.proofs.ContentLaws.{not-within}
-use Rattle.parse.specs.Parse.{allowed, headFault, eventFault, rowFault, pairFault, valueFault, faultAt}
+use Rattle.parse.specs.Parse.{allowed, headFault, eventFault, eventFaultBy, rowFault, pairFault, valueFault, valueFaultBy, faultAt, faultBy}
 use Rattle.parse.specs.Refusal.{stateNo, faultNo, valueNo, soFar, tagNo, WrongTag, unknown, falling, second-head, no-head, Blames, cut, tag, long, of-head, of-event, of-row, of-pair, one-init-more, one-other-more, one-pair-more}
 
 -- the tag before field number k, 0 where it is the first
@@ -86,7 +86,7 @@ module _ (s : List ℕ) (k : ℕ) where
       go false a f = one-other-more e (eqb-false _ _ a) (ltb-false _ _ f)
 
   event-answers : tagNo s k ≡ 2 → Answers (eventFault (x .head) (x .events) v)
-  unfolding eventFault
+  unfolding eventFaultBy
   event-answers e =
       rung Answers (ltb (length v) (eventBytes (x .head .edition))) _ _
       (λ a. inr (long (λ l. let h = ltb-true (length v) (eventBytes (x .head .edition)) a in let q = l .event e in omega arith)))
@@ -108,7 +108,7 @@ module _ (s : List ℕ) (k : ℕ) where
       (λ _. rung Answers (non (ltb (length (x .pairs)) maxPairs)) _ _ (λ a. inr (one-pair-more e (ltb-false _ _ (non-true _ a)))) (λ _. inl refl)))
 
   value-answers : Answers (valueFault x (tagNo s k) v)
-  unfolding valueFault
+  unfolding valueFaultBy
   value-answers =
       rung Answers (eqb t 1) _ _ (λ a. head-answers (eqb-true _ _ a))
       (λ a. rung Answers (eqb t 2) _ _ (λ b. event-answers (eqb-true _ _ b))
@@ -119,7 +119,7 @@ module _ (s : List ℕ) (k : ℕ) where
       t = tagNo s k
 
   field-answers : stateNo s k .tag ≡ lastTag s k → (1 ≤ k → 1 ≤ lastTag s k) → Answers (faultNo s k)
-  unfolding faultAt
+  unfolding faultBy
   field-answers e l =
       rung Answers (ltb (length s) (fieldPlace s k + fieldBytes)) _ _ (λ a. let h = ltb-true (length s) (fieldPlace s k + fieldBytes) a in inr (cut (omega arith)))
       (λ _. rung Answers (non (allowed (stateNo s k .tag) (tagNo s k))) _ _

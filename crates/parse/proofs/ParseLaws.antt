@@ -24,7 +24,7 @@ use Rattle.format.specs.Field.{fieldBytes, tagAt, lengthAt, nextAt, valueAt}
 use Rattle.format.specs.Layout.{eventBytes, dataBytes, rowBytes, pairBytes, agentOf, shapeOf}
 use Rattle.content.specs.Content.{eventFits, roomFor}
 use Rattle.content.proofs.ContentLaws.{within-elim}
-use Rattle.parse.specs.Parse.{Parsed, refused, whole, State, placeOf, blank, allowed, headFault, eventFault, rowFault, pairFault, valueFault, faultAt, after, lowestLacking, completed, finish, fieldsFrom, parse}
+use Rattle.parse.specs.Parse.{Parsed, refused, whole, State, placeOf, blank, allowed, headFault, eventFault, eventFaultBy, rowFault, pairFault, valueFault, valueFaultBy, faultAt, faultBy, after, lowestLacking, completed, finish, fieldsFrom, parse}
 
 -- ---- tests
 
@@ -44,7 +44,7 @@ pub record EventPassed (h : Head) (events : List Event) (v : List ℕ) : Type 0 
   pub room : roomFor events (agentOf v) ≡ true
 
 pub event-passed : (h : Head) (events : List Event) (v : List ℕ) → eventFault h events v ≡ 0 → EventPassed h events v
-unfolding eventFault
+unfolding eventFaultBy
 event-passed h events v e =
     let a = no-fault (ltb (length v) (eventBytes (h .edition))) 3 _ e .1 in
     let b = no-fault-non (eventFits h events (agentOf v) (shapeOf (h .edition) v)) 5 _ a in
@@ -55,18 +55,18 @@ event-passed h events v e =
 
 module _ (s : List ℕ) (p : ℕ) (st : State) (h : faultAt s p st ≡ 0) where
   pub inside : nextAt s p ≤ length s
-  unfolding faultAt
+  unfolding faultBy
   inside =
       let a = no-fault (ltb (length s) (p + fieldBytes)) 1 _ h .1 in
       let b = no-fault-non (allowed (st .tag) (tagAt s p)) 2 _ a .1 in
       ltb-false (length s) (nextAt s p) (no-fault (ltb (length s) (nextAt s p)) 1 _ b .0)
 
   pub permitted : allowed (st .tag) (tagAt s p) ≡ true
-  unfolding faultAt
+  unfolding faultBy
   permitted = let a = no-fault (ltb (length s) (p + fieldBytes)) 1 _ h .1 in no-fault-non (allowed (st .tag) (tagAt s p)) 2 _ a .0
 
   pub clean : valueFault (st .got) (tagAt s p) (valueAt s p) ≡ 0
-  unfolding faultAt
+  unfolding faultBy
   clean =
       let a = no-fault (ltb (length s) (p + fieldBytes)) 1 _ h .1 in
       let b = no-fault-non (allowed (st .tag) (tagAt s p)) 2 _ a .1 in
@@ -99,19 +99,19 @@ module _ (s : List ℕ) (p : ℕ) (st : State) (h : faultAt s p st ≡ 0) where
       false≢true (simp (ne-eqb (tagAt s p) 1 a, ne-eqb (tagAt s p) 2 b, ne-eqb (tagAt s p) 3 c, ne-eqb (tagAt s p) 4 d) at permitted)
 
   pub head-clean : tagAt s p ≡ 1 → headFault (valueAt s p) ≡ 0
-  unfolding valueFault
+  unfolding valueFaultBy
   head-clean e = subst (λ (t : ℕ). valueFault (st .got) t (valueAt s p) ≡ 0) e clean
 
   pub event-clean : tagAt s p ≡ 2 → eventFault (st .got .head) (st .got .events) (valueAt s p) ≡ 0
-  unfolding valueFault
+  unfolding valueFaultBy
   event-clean e = subst (λ (t : ℕ). valueFault (st .got) t (valueAt s p) ≡ 0) e clean
 
   pub row-clean : tagAt s p ≡ 3 → rowFault (st .got .head) (st .got .events) (st .got .rows) (valueAt s p) ≡ 0
-  unfolding valueFault
+  unfolding valueFaultBy
   row-clean e = subst (λ (t : ℕ). valueFault (st .got) t (valueAt s p) ≡ 0) e clean
 
   pub pair-clean : tagAt s p ≡ 4 → pairFault (st .got .events) (st .got .pairs) (valueAt s p) ≡ 0
-  unfolding valueFault
+  unfolding valueFaultBy
   pair-clean e = subst (λ (t : ℕ). valueFault (st .got) t (valueAt s p) ≡ 0) e clean
 
   pub row-length : tagAt s p ≡ 3 → lengthAt s p ≡ rowBytes (st .got .head .edition)

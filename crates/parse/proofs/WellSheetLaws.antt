@@ -17,7 +17,7 @@ use Rattle.format.specs.Execution.{Execution}
 use Rattle.format.specs.Field.{fieldBytes, tagAt, nextAt, valueAt}
 use Rattle.format.specs.Layout.{editionOf, headOf}
 use Rattle.content.proofs.ContentLaws.{within-holds}
-use Rattle.parse.specs.Parse.{whole, State, blank, allowed, valueFault, faultAt, taken, after, fieldsFrom, parse}
+use Rattle.parse.specs.Parse.{whole, State, blank, allowed, valueFault, valueFaultBy, faultAt, faultBy, taken, after, fieldsFrom, parse}
 use Rattle.parse.specs.Promise.{WellFormed}
 use Rattle.parse.specs.Described.{fieldsTaken, described}
 use Rattle.parse.specs.Framed.{Long, Fields, no-more, one-more}
@@ -35,7 +35,7 @@ accepted-well s x e =
 -- ---- a field that sits, of what is well formed, has no fault
 
 field-passes : (s : List ℕ) (p : ℕ) (st : State) → nextAt s p ≤ length s → allowed (st .tag) (tagAt s p) ≡ true → valueFault (st .got) (tagAt s p) (valueAt s p) ≡ 0 → faultAt s p st ≡ 0
-unfolding faultAt
+unfolding faultBy
 field-passes s p st i a v =
     passed _ _ _ (le-ltb (length s) (p + fieldBytes) (omega arith)) (passed-non _ _ _ a (passed _ _ _ (le-ltb (length s) (nextAt s p) i) v))
 
@@ -48,7 +48,7 @@ allows-to tag last (inr (inr e)) a b = rw e (within-holds 1 4 last a (omega arit
 module _ (x : Execution) (w : WellFormed x) where
   value-passes : (y : Execution) (tag : ℕ) (v : List ℕ) → NoHead tag → Long (x .head .edition) tag v → y .head ≡ x .head
       → Grown tag (taken y tag v) x → valueFault y tag v ≡ 0
-  unfolding taken valueFault
+  unfolding taken valueFaultBy
   value-passes y tag v (inl e) l h q =
       let g : Grown 2 (taken y 2 v) x = rw e at q in
       rw (e, h) (event-passes x w (y .events) v (rw h at (g .events)) (l .event e))
@@ -78,7 +78,7 @@ module _ (s : List ℕ) (x : Execution) (w : WellFormed x) where
       at-next s k p st (omega arith) b z ∙ walk f (k - 1) (after s p st) (omega arith) (omega arith) refl (g .head) c
 
 pub well-accepted : (s : List ℕ) (x : Execution) → WellSheet s x → parse s ≡ whole x
-unfolding described after taken allowed valueFault
+unfolding described after taken allowed valueFaultBy
 well-accepted s x w =
     let f = w .framed in
     let i = f .inside in

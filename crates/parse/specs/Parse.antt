@@ -2,7 +2,8 @@
 -- Laws: proofs/ParseLaws.antt, proofs/PromiseLaws.antt.
 --     Parsed, parse                 the answer of the reader
 --     placeOf                       a refusal's place, from its number and the place of the field's tag
---     State, faultAt, after         what has been read; the first fault of the next field (0 for none); the state behind it
+--     State, after                  what has been read; the state behind the next field
+--     faultAt                       the first fault of the next field (0 for none); faultBy: where a test tells whether there is room for an event
 --     finish                        what is tested after all fields
 -- Assumes nothing.
 use mathlib.Core.Bool.{Bool, true, false, cond}
@@ -52,13 +53,17 @@ allowed last tag =
 unfoldable pub headFault : List ℕ → ℕ
 headFault v = cond (non (eqb (length v) (headBytes (editionOf v)))) 4 (cond (non (headFits (headOf (editionOf v) v))) 5 0)
 
--- 01: "For an event: value under five bytes (4), content (6), exact length (4), count (9)."
-unfoldable pub eventFault : Head → List Event → List ℕ → ℕ
-eventFault h events v =
+-- 01: "For an event: value under five bytes (4), content (6), exact length (4), count (9)."; `room` tells of an agent whether there is room for one
+-- event of its more, so that a reader may tell it by what it has counted (crates/faults)
+unfoldable pub eventFaultBy : (ℕ → Bool) → Head → List Event → List ℕ → ℕ
+eventFaultBy room h events v =
     cond (ltb (length v) (eventBytes (h .edition))) 4
     (cond (non (eventFits h events (agentOf v) (shapeOf (h .edition) v))) 6
     (cond (non (eqb (length v) (eventBytes (h .edition) + dataBytes (shapeOf (h .edition) v)))) 4
-    (cond (non (roomFor events (agentOf v))) 9 0)))
+    (cond (non (room (agentOf v))) 9 0)))
+
+abbrev pub eventFault : Head → List Event → List ℕ → ℕ
+eventFault h events v = eventFaultBy (roomFor events) h events v
 
 unfoldable pub rowFault : Head → List Event → List Row → List ℕ → ℕ
 rowFault h events rows v = cond (non (eqb (length v) (rowBytes (h .edition)))) 4 (cond (non (rowFits events rows (rowOf (h .edition) v))) 7 0)
@@ -70,20 +75,27 @@ pairFault events pairs v =
     (cond (non (pairFits events pairs (pairOf v))) 8
     (cond (non (ltb (length pairs) maxPairs)) 9 0))
 
-unfoldable pub valueFault : Execution → ℕ → List ℕ → ℕ
-valueFault x tag v =
+unfoldable pub valueFaultBy : (ℕ → Bool) → Execution → ℕ → List ℕ → ℕ
+valueFaultBy room x tag v =
     cond (eqb tag 1) (headFault v)
-    (cond (eqb tag 2) (eventFault (x .head) (x .events) v)
+    (cond (eqb tag 2) (eventFaultBy room (x .head) (x .events) v)
     (cond (eqb tag 3) (rowFault (x .head) (x .events) (x .rows) v)
     (cond (eqb tag 4) (pairFault (x .events) (x .pairs) v) 3)))
 
+abbrev pub valueFault : Execution → ℕ → List ℕ → ℕ
+valueFault x tag v = valueFaultBy (roomFor (x .events)) x tag v
+
 -- 01: "In a field: fewer than three bytes left (2), tag not allowed here (3), value past the end (2), length (4), content (5 to 8)."
-unfoldable pub faultAt : List ℕ → ℕ → State → ℕ
-faultAt s p st =
+unfoldable pub faultBy : (ℕ → Bool) → List ℕ → ℕ → State → ℕ
+faultBy room s p st =
     cond (ltb (length s) (p + fieldBytes)) 2
     (cond (non (allowed (st .tag) (tagAt s p))) 3
     (cond (ltb (length s) (nextAt s p)) 2
-    (valueFault (st .got) (tagAt s p) (valueAt s p))))
+    (valueFaultBy room (st .got) (tagAt s p) (valueAt s p))))
+
+-- there is room for as many as 01 allows
+abbrev pub faultAt : List ℕ → ℕ → State → ℕ
+faultAt s p st = faultBy (roomFor (st .got .events)) s p st
 
 -- the execution with what the field at p describes
 unfoldable pub taken : Execution → ℕ → List ℕ → Execution

@@ -1,6 +1,6 @@
 -- `faults::event_fault` meets its contract, test by test. Assumes nothing.
 use Rattle.basis.specs.Test.{non}
-use Rattle.faults.specs.Faults.{eventFaultIn}
+use Rattle.parse.specs.Parse.{eventFaultBy}
 use borrow.Author.Needs.{needs}
 use Rattle.faults.proofs.event_fault.Statement.{statement}
 use Rattle.faults.proofs.event_fault.Tie as tie
@@ -12,7 +12,7 @@ cast-least : tie.Need-cast-least
 cast-least c = search needs
 
 returns : tie.Need-returns
-unfolding eventFaultIn non
+unfolding eventFaultBy non
 returns c = simp (simp (c .before .event-bytes .ensures) at (c .if1 .taken))
 
 byte-requires : tie.Need-byte-requires
@@ -25,7 +25,7 @@ event-fits-requires : tie.Need-event-fits-requires
 event-fits-requires c κs = search needs
 
 returns-2 : tie.Need-returns-2
-unfolding eventFaultIn non
+unfolding eventFaultBy non
 returns-2 c = simp (simp (c .before .before .before .before .before .event-bytes .ensures) at (c .before .before .before .before .if1 .left), simp (c .before .event-fits .ensures, c .before .before .before .byte .ensures, c .before .before .shape-of .ensures) at (c .if2 .taken))
 
 data-bytes-requires : tie.Need-data-bytes-requires
@@ -38,7 +38,7 @@ add-exact : tie.Need-add-exact
 add-exact c = search needs
 
 returns-3 : tie.Need-returns-3
-unfolding eventFaultIn non
+unfolding eventFaultBy non
 returns-3 c = simp (simp (c .before .before .before .before .before .before .before .event-bytes .ensures) at (c .before .before .before .before .before .before .if1 .left), simp (c .before .before .before .event-fits .ensures, c .before .before .before .before .before .byte .ensures, c .before .before .before .before .shape-of .ensures) at (c .before .before .if2 .left), simp (c .before .before .before .before .before .before .before .event-bytes .ensures, c .before .data-bytes .ensures, c .before .before .before .before .shape-of .ensures) at (c .if3 .taken))
 
 others-requires : tie.Need-others-requires
@@ -48,11 +48,11 @@ room-for-requires : tie.Need-room-for-requires
 room-for-requires c κs = search needs
 
 returns-4 : tie.Need-returns-4
-unfolding eventFaultIn non
+unfolding eventFaultBy non
 returns-4 c = simp (simp (c .before .before .before .before .before .before .before .before .before .before .event-bytes .ensures) at (c .before .before .before .before .before .before .before .before .before .if1 .left), simp (c .before .before .before .before .before .before .event-fits .ensures, c .before .before .before .before .before .before .before .before .byte .ensures, c .before .before .before .before .before .before .before .shape-of .ensures) at (c .before .before .before .before .before .if2 .left), simp (c .before .before .before .before .before .before .before .before .before .before .event-bytes .ensures, c .before .before .before .before .data-bytes .ensures, c .before .before .before .before .before .before .before .shape-of .ensures) at (c .before .before .before .if3 .left), simp (c .before .room-for .ensures, c .before .before .others .ensures, c .before .before .before .before .before .before .before .before .byte .ensures) at (c .if4 .taken))
 
 returns-5 : tie.Need-returns-5
-unfolding eventFaultIn non
+unfolding eventFaultBy non
 returns-5 c = simp (simp (c .before .before .before .before .before .before .before .before .before .before .event-bytes .ensures) at (c .before .before .before .before .before .before .before .before .before .if1 .left), simp (c .before .before .before .before .before .before .event-fits .ensures, c .before .before .before .before .before .before .before .before .byte .ensures, c .before .before .before .before .before .before .before .shape-of .ensures) at (c .before .before .before .before .before .if2 .left), simp (c .before .before .before .before .before .before .before .before .before .before .event-bytes .ensures, c .before .before .before .before .data-bytes .ensures, c .before .before .before .before .before .before .before .shape-of .ensures) at (c .before .before .before .if3 .left), simp (c .before .room-for .ensures, c .before .before .others .ensures, c .before .before .before .before .before .before .before .before .byte .ensures) at (c .if4 .left))
 
 pub event-fault-spec : {M : Type 1} → statement M

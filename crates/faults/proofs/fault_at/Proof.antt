@@ -1,6 +1,6 @@
 -- `faults::fault_at` meets its contract, test by test. Assumes nothing.
 use Rattle.basis.specs.Test.{non}
-use Rattle.faults.specs.Faults.{faultIn}
+use Rattle.parse.specs.Parse.{faultBy}
 use borrow.Author.Needs.{needs}
 use Rattle.faults.proofs.fault_at.Statement.{statement}
 use Rattle.faults.proofs.fault_at.Tie as tie
@@ -9,7 +9,7 @@ add-stub : tie.Need-add-stub
 add-stub c = search needs
 
 returns : tie.Need-returns
-unfolding faultIn non
+unfolding faultBy non
 returns c = simp (c .if1 .taken)
 
 byte-requires : tie.Need-byte-requires
@@ -19,7 +19,7 @@ allowed-requires : tie.Need-allowed-requires
 allowed-requires c κs = search needs
 
 returns-2 : tie.Need-returns-2
-unfolding faultIn non
+unfolding faultBy non
 returns-2 c = simp (c .before .before .before .if1 .left, simp (c .before .allowed .ensures, c .before .before .byte .ensures) at (c .if2 .taken))
 
 add-next : tie.Need-add-next
@@ -35,7 +35,7 @@ add-next-2 : tie.Need-add-next-2
 add-next-2 c = search needs
 
 returns-3 : tie.Need-returns-3
-unfolding faultIn non
+unfolding faultBy non
 returns-3 c = simp (c .before .before .before .before .before .if1 .left, simp (c .before .before .before .allowed .ensures, c .before .before .before .before .byte .ensures) at (c .before .before .if2 .left), simp (c .before .length-at .ensures) at (c .if3 .taken))
 
 value-at-requires : tie.Need-value-at-requires
@@ -45,7 +45,7 @@ value-fault-requires : tie.Need-value-fault-requires
 value-fault-requires c κs = search needs
 
 returns-4 : tie.Need-returns-4
-unfolding faultIn non
+unfolding faultBy non
 returns-4 c = simp (c .before .before .before .before .before .before .before .if1 .left, simp (c .before .before .before .before .before .allowed .ensures, c .before .before .before .before .before .before .byte .ensures) at (c .before .before .before .before .if2 .left), simp (c .before .before .before .length-at .ensures) at (c .before .before .if3 .left), c .value-fault .ensures, c .before .value-at .ensures, c .before .before .before .before .before .before .byte .ensures)
 
 pub fault-at-spec : {M : Type 1} → statement M

@@ -1,7 +1,6 @@
 -- `faults::value_fault` meets its contract, tag by tag. Assumes nothing.
 use borrow.Author.Tests.{ne-eqb}
-use Rattle.parse.specs.Parse.{valueFault}
-use Rattle.faults.specs.Faults.{valueFaultIn}
+use Rattle.parse.specs.Parse.{valueFaultBy}
 use borrow.Author.Needs.{needs}
 use Rattle.faults.proofs.value_fault.Statement.{statement}
 use Rattle.faults.proofs.value_fault.Tie as tie
@@ -19,23 +18,23 @@ pair-fault-requires : tie.Need-pair-fault-requires
 pair-fault-requires c κs = search needs
 
 returns : tie.Need-returns
-unfolding valueFaultIn valueFault
+unfolding valueFaultBy
 returns c = simp (c .before .match .keys1, c .head-fault .ensures)
 
 returns-2 : tie.Need-returns-2
-unfolding valueFaultIn valueFault
+unfolding valueFaultBy
 returns-2 c = simp (c .before .match .keys2, c .event-fault .ensures)
 
 returns-3 : tie.Need-returns-3
-unfolding valueFaultIn valueFault
+unfolding valueFaultBy
 returns-3 c = simp (c .before .match .keys3, c .row-fault .ensures)
 
 returns-4 : tie.Need-returns-4
-unfolding valueFaultIn valueFault
+unfolding valueFaultBy
 returns-4 c = simp (c .before .match .keys4, c .pair-fault .ensures)
 
 returns-5 : tie.Need-returns-5
-unfolding valueFaultIn valueFault
+unfolding valueFaultBy
 returns-5 c = simp (ne-eqb _ _ (c .match .rest .0 .0 .0 .1), ne-eqb _ _ (c .match .rest .0 .0 .1), ne-eqb _ _ (c .match .rest .0 .1), ne-eqb _ _ (c .match .rest .1))
 
 pub value-fault-spec : {M : Type 1} → statement M

@@ -1,19 +1,22 @@
 -- The laws of the last step: the search's problem is the model's, so what it finds is the first of all orders that meet the rules.
 -- Assumes nothing.
---     arranged-judged     what the last step answers is what is to be answered
+--     Unbroken s k n m ..     the tables hold what the sheet describes, and none of 21 to 25 is broken
+--     arranged-judged         what the last step answers is what is to be answered
 use mathlib.Core.Path.{_≡_, refl, sym, ap, _∙_, subst}
 use mathlib.Core.Logic.{_↔_, inr}
 use mathlib.Core.Bool.{Bool, true, false}
 use mathlib.Core.List.{List}
+use mathlib.Core.Option.{none}
 use Prim.Native.Nat.{ℕ, _-_, _<_, _≤_, min}
 use native.Mathlib.Omega.{arith}
 use lib.Dec.{T}
 use lib.ListN.{length, take}
 use Rattle.basis.proofs.BoolLaws.{true-T, T-true}
 use Rattle.format.specs.Event.{writesAt}
-use Rattle.format.specs.Execution.{Execution, others}
+use Rattle.format.specs.Execution.{Execution, inits, others}
 use Rattle.format.proofs.EventLaws.{writesAt-nobody}
 use Rattle.format.proofs.ExecutionLaws.{event-inside}
+use Rattle.parse.specs.Parse.{whole}
 use Rattle.parse.proofs.PromiseLaws.{promise}
 use Rattle.sets.specs.Mask.{slots}
 use Rattle.marks.specs.Table.{bytesFor, cleared}
@@ -30,8 +33,8 @@ use Rattle.orders.proofs.AnswerLaws.{ordered-first, ordered-none}
 use Rattle.answer.specs.declared.Names.the-variants.{Nobody}
 use Rattle.answer.specs.declared.Answer.{Answer}
 use Rattle.model.specs.Order.{problem}
-use Rattle.model.specs.Rules.{faulty}
-use Rattle.model.specs.Judged.{needed, JudgedBroken, JudgedConsistent, Judged}
+use Rattle.model.specs.Rules.{faulty, fault}
+use Rattle.model.specs.Judged.{needed, admitted, JudgedBroken, JudgedConsistent, Judged}
 use Rattle.model.proofs.Sound.{Sound, sound}
 use Rattle.model.proofs.HappensLaws.{happens-inside, writer-inside}
 use Rattle.model.proofs.BarLaws.{bar-elim, row-bars}
@@ -39,9 +42,17 @@ use Rattle.model.proofs.OrderLaws.{inits-others, begins}
 use Rattle.model.proofs.JudgedLaws.{Admitted, admitted-whole}
 use Rattle.settle.specs.Settle.{settledIn}
 use Rattle.arrange.specs.Arranged.{barsOf, saidOf, Arranged}
-use Rattle.front.specs.Tabled.{hbOf}
+use Rattle.front.specs.Tabled.{hbOf, Held}
 use Rattle.front.proofs.SheetLaws.{held-bars, held-settled}
-use Rattle.judge.specs.steps.Admitted.{Unbroken}
+
+-- the execution that the sheet describes, of which the first k events are inits; the tables hold it, with its happens-before; none of 21 to 25 is
+-- broken, so that 01's "26: no total order as below exists" is next
+pub record Unbroken (s : List ℕ) (k n m : ℕ) (t q succ pred scratch order : List ℕ) : Type 0 where
+  pub execution : Execution
+  pub describes : admitted s (length scratch) (length order) ≡ whole execution
+  pub starts : k ≡ inits (execution .events)
+  pub held : Held execution n m t q succ pred
+  pub kept : fault execution (hbOf succ) ≡ none
 
 module _ {s : List ℕ} {k n m : ℕ} {t q succ pred scratch order : List ℕ} (u : Unbroken s k n m t q succ pred scratch order) where
   abbrev X : Execution

@@ -1,38 +1,30 @@
--- The laws of the judge's first steps: refusals, buffers that are too short, a broken rule. Assumes nothing.
+-- The laws of the judge's first steps: refusals, and buffers that are too short. Assumes nothing.
 --     refused-sheet, short-scratch, short-order     refusals
+--     Admits s x at need scratch order              the sheet is refused by none of 1 to 13, and needs so much scratch
 --     inits-fit, admits                             what the buffers are held against; what is weighed
---     broken-rule, unbroken-of                      21 to 25; what the last step starts from
-use mathlib.Core.Path.{_≡_, refl, sym, ap, _∙_}
-use mathlib.Core.Logic.{inl}
+use mathlib.Core.Path.{_≡_, refl, ap, _∙_}
 use mathlib.Core.List.{List}
 use Prim.Native.Nat.{ℕ, _-_, _<_, _≤_, min}
 use native.Mathlib.Omega.{arith}
 use borrow.Author.Tests.{lt-ltb, le-ltb}
-use lib.ListN.{length, replicate}
+use lib.ListN.{length}
 use Rattle.format.specs.Execution.{Execution, others}
 use Rattle.entries.specs.declared.Counts.{Counts}
-use Rattle.parse.specs.Parse.{refused, parse}
+use Rattle.parse.specs.Parse.{refused, whole, parse}
 use Rattle.entries.specs.Entries.{execution}
-use Rattle.sheet.specs.Handed.{HandedWhole}
-use Rattle.parse.specs.Promise.{WellFormed}
-use Rattle.parse.proofs.PromiseLaws.{promise}
+use Rattle.sheet.specs.Handed.{Laid, HandedWhole}
 use Rattle.sets.specs.Mask.{slots}
-use Rattle.marks.specs.Table.{bytesFor, cleared}
-use Rattle.answer.specs.declared.Names.{Names}
-use Rattle.model.specs.Rules.{faulty, fault}
-use Rattle.model.specs.Judged.{needed, lent, admitted, JudgedRefused, JudgedBroken}
+use Rattle.marks.specs.Table.{bytesFor}
+use Rattle.model.specs.Judged.{needed, lent, admitted, JudgedRefused}
 use Rattle.model.proofs.OrderLaws.{inits-others}
-use Rattle.model.proofs.JudgedLaws.{admitted-whole, whole-admitted}
-use Rattle.tables.specs.Tables.{columns, rowRoom, rowCells, pairRoom}
-use Rattle.before.specs.Before.{ClosedSteps}
-use Rattle.lay.specs.Lay.{Layered}
-use Rattle.answer.specs.declared.Rule.{Rule}
-use Rattle.answer.specs.declared.Rule.the-variants.{Kept, Breach}
-use Rattle.rules.specs.Rules.{ruleIn}
-use Rattle.front.specs.Tabled.{hbOf, foundOf}
+use Rattle.model.proofs.JudgedLaws.{whole-admitted}
 use Rattle.front.proofs.LaidLaws.{laid-count}
-use Rattle.front.proofs.SheetLaws.{sheet-held, sheet-rules}
-use Rattle.judge.specs.steps.Admitted.{Admits, Unbroken}
+
+-- the reader found the sheet whole, and neither 01's "12 scratch too short" nor "13 order buffer shorter than the number of events" applies
+pub record Admits (s : List ℕ) (x : Counts) (at : List ℕ) (need : ℕ) (scratch order : List ℕ) : Type 0 where
+  pub laid : Laid s x at
+  pub describes : admitted s (length scratch) (length order) ≡ whole (execution s x at)
+  pub needs : need ≡ needed (execution s x at)
 
 -- a sheet that the reader refuses
 pub refused-sheet : {s scratch order : List ℕ} {n p : ℕ} → parse s ≡ refused n p → JudgedRefused s scratch order n p scratch order
@@ -82,40 +74,3 @@ module _ {s : List ℕ} {x : Counts} {at : List ℕ} (h : HandedWhole s x at) wh
           describes = whole-admitted s (length scratch) (length order) X (h .says) (rw (need-same k) at i) (rw events l);
           needs = need-same k;
         }
-
--- ---- the rules
-
-module _ {s : List ℕ} {x : Counts} {at : List ℕ} {need : ℕ} {scratch order : List ℕ} (a : Admits s x at need scratch order) {t q p : List ℕ}
-    (ly : Layered s x at (replicate columns 0) t (replicate rowCells 0) q (replicate 64 0) p) {succ pred : List ℕ}
-    (o : ClosedSteps t (min (x .events) slots) q (min (x .rows) rowRoom) p (min (x .pairs) pairRoom) (replicate slots 0) succ (replicate slots 0) pred) where
-  well : WellFormed (execution s x at)
-  well = promise s (execution s x at) (admitted-whole s (length scratch) (length order) (execution s x at) (a .describes) .describes)
-
-  -- what the rules find is what the model finds
-  found : {rule : Rule} → rule ≡ ruleIn t (min (x .events) slots) succ pred q (min (x .rows) rowRoom)
-      → foundOf rule ≡ fault (execution s x at) (hbOf succ)
-  found e = ap foundOf e ∙ sheet-rules (a .laid) well ly o
-
-  pub unbroken-of : {rule : Rule} → rule ≡ ruleIn t (min (x .events) slots) succ pred q (min (x .rows) rowRoom) → rule ≡ Kept
-      → Unbroken s (x .inits) (x .events) (x .rows) t q succ pred scratch order
-  unbroken-of e k =
-      record {
-        execution = execution s x at;
-        describes = a .describes;
-        starts = a .laid .inits;
-        held = sheet-held (a .laid) well ly o;
-        kept = sym (found e) ∙ ap foundOf k;
-      }
-
-  pub broken-rule : {rule : Rule} → rule ≡ ruleIn t (min (x .events) slots) succ pred q (min (x .rows) rowRoom) → {n : ℕ} {names : Names} → rule ≡ Breach n names
-      → {scratch′ : List ℕ} → scratch′ ≡ cleared need scratch → JudgedBroken s scratch order (faulty n names) scratch′ order
-  broken-rule e k c =
-      record {
-        execution = execution s x at;
-        describes = a .describes;
-        hb = hbOf succ;
-        tests = sheet-held (a .laid) well ly o .tests;
-        breaks = inl (sym (found e) ∙ ap foundOf k);
-        scratch-cleared = c ∙ ap (λ (i : ℕ). cleared i scratch) (a .needs);
-        order-kept = refl;
-      }

@@ -1,2 +1,3 @@
 pub mod ArrangeLaws
 pub mod JudgeLaws
+pub mod WeighLaws

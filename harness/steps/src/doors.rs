@@ -16,7 +16,7 @@ const BARS: usize = SLOTS * SLOTS;
 
 // A slice is a pointer and then a length, an array a pointer.
 extern "C" {
-    fn steps_before(
+    fn steps_rule(
         t: *const u8,
         events: usize,
         q: *const u8,
@@ -24,11 +24,8 @@ extern "C" {
         p: *const u8,
         pairs: usize,
         succ: *mut u32,
-        succ_len: usize,
         pred: *mut u32,
-        pred_len: usize,
-    );
-    fn steps_rule(t: *const u8, events: usize, succ: *const u32, pred: *const u32, q: *const u8, rows: usize) -> u64;
+    ) -> u64;
     fn steps_bars(
         t: *const u8,
         events: usize,
@@ -38,8 +35,7 @@ extern "C" {
         rows: usize,
         bars: *mut u32,
         bars_len: usize,
-    );
-    fn steps_settle(t: *const u8, succ: *const u32, events: usize) -> u64;
+    ) -> u64;
 }
 
 /// The tables of one execution after another. What stands beyond its counts is left from those before, or random: only a
@@ -123,7 +119,7 @@ impl Tables {
         }
     }
 
-    /// The four steps, with empty masks to begin with.
+    /// The steps, two and two, with empty masks to begin with.
     pub fn steps(&self, x: &Execution) -> Said {
         let (events, rows, pairs) = (x.events.len(), x.rows.len(), x.pairs.len());
         let (t, q, p) = (self.accesses.as_ptr(), self.rows.as_ptr(), self.pairs.as_ptr());
@@ -131,10 +127,9 @@ impl Tables {
         let mut bars = vec![0; BARS];
         // Every pointer is to an array of the length that the function's type has; nothing is kept.
         let (rule, settled) = unsafe {
-            steps_before(t, events, q, rows, p, pairs, succ.as_mut_ptr(), SLOTS, pred.as_mut_ptr(), SLOTS);
-            let rule = steps_rule(t, events, succ.as_ptr(), pred.as_ptr(), q, rows);
-            steps_bars(t, events, succ.as_ptr(), pred.as_ptr(), q, rows, bars.as_mut_ptr(), BARS);
-            (rule, steps_settle(t, succ.as_ptr(), events))
+            let rule = steps_rule(t, events, q, rows, p, pairs, succ.as_mut_ptr(), pred.as_mut_ptr());
+            let settled = steps_bars(t, events, succ.as_ptr(), pred.as_ptr(), q, rows, bars.as_mut_ptr(), BARS);
+            (rule, settled)
         };
         Said { succ, pred, rule, bars, settled }
     }

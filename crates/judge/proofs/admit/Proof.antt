@@ -1,5 +1,6 @@
--- `judge::admit` meets its contract: 12, 13, or the judgement. Assumes nothing.
+-- `judge::admit` meets its contract: 12, 13, or what is weighed. Assumes nothing.
 use Rattle.judge.proofs.JudgeLaws.{inits-fit, short-scratch, short-order, admits}
+use Rattle.judge.proofs.WeighLaws.{weighed-judged}
 use borrow.Author.Needs.{needs}
 use Rattle.judge.proofs.admit.Statement.{statement}
 use Rattle.judge.proofs.admit.Tie as tie
@@ -23,7 +24,7 @@ returns-2 : tie.Need-returns-2
 returns-2 c = short-order (c .before .before .before .before .before .before .before .before .before .pre) (c .before .before .before .needed .ensures) (c .before .before .if1 .left) (c .if2 .taken)
 
 weigh-requires : tie.Need-weigh-requires
-weigh-requires c κs = admits (c .before .before .before .before .before .before .before .before .before .before .before .pre) (c .before .before .before .before .before .needed .ensures) (c .before .before .before .before .if1 .left) (c .before .before .if2 .left)
+weigh-requires c κs = search needs
 
 same-length : tie.Need-same-length
 same-length c = search needs
@@ -32,7 +33,7 @@ same-length-2 : tie.Need-same-length-2
 same-length-2 c = search needs
 
 returns-3 : tie.Need-returns-3
-returns-3 c = search needs
+returns-3 c = weighed-judged (admits (c .before .before .before .before .before .before .before .before .before .before .before .before .before .before .before .before .pre) (c .before .before .before .before .before .before .before .before .before .before .needed .ensures) (c .before .before .before .before .before .before .before .before .before .if1 .left) (c .before .before .before .before .before .before .before .if2 .left)) (c .before .before .before .before .weigh .ensures)
 
 pub admit-spec : {M : Type 1} → statement M
 admit-spec =

@@ -5,6 +5,9 @@ use Rattle.steps_c.specs.Exported.{ruleWord}
 use Rattle.steps_c.proofs.steps_rule.Statement.{statement}
 use Rattle.steps_c.proofs.steps_rule.Tie as tie
 
+fill-requires : tie.Need-fill-requires
+fill-requires c κs = search needs
+
 first-broken-requires : tie.Need-first-broken-requires
 first-broken-requires c κs = search needs
 
@@ -18,12 +21,19 @@ pack-requires : tie.Need-pack-requires
 pack-requires c κs = search needs
 
 returns : tie.Need-returns
-returns c = sym (ap ruleWord (c .enum-told .given .1)) ∙ ap ruleWord (c .before .before .first-broken .ensures)
+returns c = record { ordered = c .before .before .before .before .before .fill .ensures; word = sym (ap ruleWord (c .enum-told .given .1)) ∙ ap ruleWord (c .before .before .first-broken .ensures) }
 
 returns-2 : tie.Need-returns-2
-returns-2 c = c .pack .ensures ∙ sym (ap ruleWord (c .before .before .rule .given .1)) ∙ ap ruleWord (c .before .before .before .before .first-broken .ensures)
+returns-2 c = record { ordered = c .before .before .before .before .before .before .before .fill .ensures; word = c .pack .ensures ∙ sym (ap ruleWord (c .before .before .rule .given .1)) ∙ ap ruleWord (c .before .before .before .before .first-broken .ensures) }
 
 pub steps-rule-spec : {M : Type 1} → statement M
 steps-rule-spec =
     tie.close
-    (tie.spec first-broken-requires enum-told enum-known-rule pack-requires returns returns-2)
+    (tie.spec
+    fill-requires
+    first-broken-requires
+    enum-told
+    enum-known-rule
+    pack-requires
+    returns
+    returns-2)

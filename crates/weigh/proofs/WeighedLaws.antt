@@ -1,0 +1,82 @@
+-- The laws of specs/Weighed.antt. Assumes nothing.
+--     weighed-broken, weighed-kept     how the code's answers are made
+--     weighed-unique                   two conforming answers are equal, both buffers too
+use mathlib.Core.Path.{_≡_, refl, sym, ap, _∙_, subst}
+use mathlib.Core.List.{List}
+use Prim.Native.Nat.{ℕ, min}
+use lib.ListN.{replicate}
+use Rattle.entries.specs.declared.Counts.{Counts}
+use Rattle.sets.specs.Mask.{slots}
+use Rattle.marks.specs.Table.{cleared}
+use Rattle.answer.specs.declared.Answer.{Answer}
+use Rattle.answer.specs.declared.Answer.the-variants.{Broken}
+use Rattle.answer.specs.declared.Names.{Names}
+use Rattle.answer.specs.declared.Rule.{Rule}
+use Rattle.answer.specs.declared.Rule.the-variants.{Kept, Breach}
+use Rattle.tables.specs.Tables.{columns, rowRoom, rowCells, pairRoom, pairCells}
+use Rattle.lay.specs.Lay.{rowsPut, Layered}
+use Rattle.before.specs.Before.{ClosedSteps}
+use Rattle.before.proofs.BeforeLaws.{closed-steps-unique}
+use Rattle.arrange.specs.Arranged.{Arranged}
+use Rattle.arrange.proofs.ArrangedLaws.{arranged-unique}
+use Rattle.weigh.specs.Weighed.{brokenIn, Decided, Weighed}
+
+module _ {s : List ℕ} {x : Counts} {at t q p : List ℕ} (l : Layered s x at (replicate columns 0) t (replicate rowCells 0) q (replicate pairCells 0) p)
+    {succ pred : List ℕ}
+    (o : ClosedSteps t (min (x .events) slots) q (min (x .rows) rowRoom) p (min (x .pairs) pairRoom) (replicate slots 0) succ (replicate slots 0) pred)
+    {rule : Rule} (e : rule ≡ brokenIn x t q succ pred) {need : ℕ} {scratch order : List ℕ} where
+  -- what follows from the rule that was found
+  weighed : {r : Answer} {scratch′ order′ : List ℕ} → Decided (x .inits) (x .events) (x .rows) t q succ pred need scratch order rule r scratch′ order′
+      → Weighed s x at need scratch order r scratch′ order′
+  weighed {r} {scratch′} {order′} d =
+      record {
+        t = t;
+        q = q;
+        p = p;
+        laid = l;
+        succ = succ;
+        pred = pred;
+        ordered = o;
+        decided = subst (λ (i : Rule). Decided (x .inits) (x .events) (x .rows) t q succ pred need scratch order i r scratch′ order′) e d;
+      }
+
+  pub weighed-broken : {n : ℕ} {names : Names} → rule ≡ Breach n names → {scratch′ : List ℕ} → scratch′ ≡ cleared need scratch
+      → Weighed s x at need scratch order (Broken n names) scratch′ order
+  weighed-broken {n} {names} k {scratch′} c =
+      weighed (subst (λ (i : Rule). Decided (x .inits) (x .events) (x .rows) t q succ pred need scratch order i (Broken n names) scratch′ order) (sym k) (record { says = refl; scratch-cleared = c; order-kept = refl }))
+
+  pub weighed-kept : rule ≡ Kept → {r : Answer} {scratch′ order′ : List ℕ} → Arranged (x .inits) (x .events) (x .rows) t q succ pred scratch order r scratch′ order′
+      → Weighed s x at need scratch order r scratch′ order′
+  weighed-kept k {r} {scratch′} {order′} a =
+      weighed (subst (λ (i : Rule). Decided (x .inits) (x .events) (x .rows) t q succ pred need scratch order i r scratch′ order′) (sym k) a)
+
+-- ---- agreement
+
+module _ (k n m : ℕ) (t q succ pred : List ℕ) (need : ℕ) (scratch order : List ℕ) {r a : Answer} {s s′ o o′ : List ℕ} where
+  decided-unique : (rule : Rule) → Decided k n m t q succ pred need scratch order rule r s o → Decided k n m t q succ pred need scratch order rule a s′ o′
+      → (r ≡ a) × (s ≡ s′) × (o ≡ o′)
+  decided-unique Kept x y = arranged-unique x y
+  decided-unique (Breach number names) x y =
+      (x .says ∙ sym (y .says), x .scratch-cleared ∙ sym (y .scratch-cleared), x .order-kept ∙ sym (y .order-kept))
+
+module _ {s : List ℕ} {x : Counts} {at : List ℕ} {need : ℕ} {scratch order : List ℕ} {r a : Answer} {c c′ o o′ : List ℕ}
+    (w : Weighed s x at need scratch order r c o) (v : Weighed s x at need scratch order a c′ o′) where
+  t-same : v .t ≡ w .t
+  t-same = v .laid .events ∙ sym (w .laid .events)
+
+  q-same : v .q ≡ w .q
+  q-same = v .laid .rows ∙ ap (λ (l : List ℕ). rowsPut s x at l (min (x .rows) rowRoom) (replicate rowCells 0)) t-same ∙ sym (w .laid .rows)
+
+  p-same : v .p ≡ w .p
+  p-same = v .laid .pairs ∙ sym (w .laid .pairs)
+
+  masks-same : (v .succ ≡ w .succ) × (v .pred ≡ w .pred)
+  masks-same =
+      closed-steps-unique (w .t) (min (x .events) slots) (w .q) (min (x .rows) rowRoom) (w .p) (min (x .pairs) pairRoom) (replicate slots 0) (replicate slots 0)
+      (v .succ) (v .pred) (w .succ) (w .pred) (rw (t-same, q-same, p-same) at (v .ordered)) (w .ordered)
+
+  pub weighed-unique : (r ≡ a) × (c ≡ c′) × (o ≡ o′)
+  weighed-unique =
+      decided-unique (x .inits) (x .events) (x .rows) (w .t) (w .q) (w .succ) (w .pred) need scratch order
+      (brokenIn x (w .t) (w .q) (w .succ) (w .pred)) (w .decided)
+      (rw (t-same, q-same, masks-same .0, masks-same .1) at (v .decided))

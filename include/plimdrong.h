@@ -25,8 +25,10 @@
  *    5, 6, 7, 8 content of head, event, row, pair    the field's tag
  *    9 fifth init, 17th other event, 33rd pair       the field's tag
  *   10 no event reads                                the sheet's length
+ *   14 an agent that the head promises has no event  the sheet's length
  *   11 a read byte without a row                     the tag of the lowest such event
  *   12 scratch too short, 13 order buffer too short  0
+ * 10, 14, 11, 12 and 13 are tested in this order, after all fields.
  *
  * BROKEN, kind 2: the execution breaks a rule. The scratch's needed part is zero, all else unchanged.
  *   21 the byte seen differs from the byte its writer wrote             R W - A

@@ -8,7 +8,7 @@ use std::fmt;
 pub enum Answer {
     /// The sheet is not well-formed, or a buffer is too short. [`refusal`](crate::refusal) tells what the number means.
     Refused {
-        /// 1 to 13.
+        /// 1 to 14.
         number: u8,
         /// The sheet's byte, counted from 0, that the refusal points to.
         place: u32,
@@ -143,7 +143,7 @@ impl Answer {
         let low = word as u32;
         let names = low.to_be_bytes();
         match (kind, number) {
-            (1, 1..=13) => Some(Answer::Refused { number, place: low }),
+            (1, 1..=14) => Some(Answer::Refused { number, place: low }),
             (2, _) => Rule::from_names(number, names).map(|rule| Answer::Broken { rule }),
             (3, 0) if names == [255; 4] => Some(Answer::Consistent { order: Order::ended_by_255(order)?, pair: None }),
             (3, 1) if names[2..] == [255; 2] && !names[..2].contains(&255) => {

@@ -63,6 +63,11 @@ pub fn refusal(number: u8) -> Option<Refusal> {
             "The order buffer is shorter than the number of events.",
             "Lend a byte for each event; 20 are enough for every sheet.",
         ),
+        14 => (
+            "An agent that the head promises has no event.",
+            "Check that the log of every agent was recorded and written, or let the head count only the agents that ran; \
+             a marker is an event.",
+        ),
         _ => return None,
     };
     Some(Refusal { meaning, remedy })
@@ -76,7 +81,7 @@ impl Answer {
                 let Refusal { meaning, remedy } = refusal(*number).expect("a number that the judge gives");
                 match number {
                     1 | 12 | 13 => format!("{meaning} {remedy}"),
-                    10 => format!("{meaning} {remedy} The sheet has {place} bytes."),
+                    10 | 14 => format!("{meaning} {remedy} The sheet has {place} bytes."),
                     _ => format!("{meaning} {remedy} See byte {place} of the sheet."),
                 }
             }

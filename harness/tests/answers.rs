@@ -11,7 +11,7 @@ fn from(word: u64) -> Option<Answer> {
 
 #[test]
 fn every_refusal() {
-    for number in 1..=13u8 {
+    for number in 1..=14u8 {
         let word = (1 << 40) + ((number as u64) << 32) + 77;
         let answer = from(word).unwrap();
         assert_eq!(answer, Answer::Refused { number, place: 77 });
@@ -20,7 +20,7 @@ fn every_refusal() {
         assert!(answer.explain().starts_with(words.meaning));
         assert!(answer.explain().contains(words.remedy));
     }
-    for number in [0, 14, 255] {
+    for number in [0, 15, 255] {
         assert_eq!(refusal(number), None);
         assert_eq!(from((1 << 40) + ((number as u64) << 32)), None);
     }

@@ -1,6 +1,6 @@
 -- Each claim of specs/Demands.antt. Assumes nothing.
 use mathlib.Core.Path.{_≡_, refl, sym, subst, _∙_, ap, ap₂}
-use mathlib.Core.Logic.{⊎-elim}
+use mathlib.Core.Logic.{inl, inr, ⊎-elim}
 use mathlib.Core.Bool.{Bool}
 use mathlib.Core.List.{List, _++_}
 use mathlib.Core.Option.{Option, none, some}
@@ -15,6 +15,7 @@ use Rattle.parse.specs.Parse.{whole, parse}
 use Rattle.parse.specs.Described.{described, Rowless}
 use Rattle.parse.specs.WellSheet.{WellSheet}
 use Rattle.parse.proofs.DescribedLaws.{rowless-refused}
+use Rattle.parse.specs.Promise.{EachAppears}
 use Rattle.parse.proofs.PromiseLaws.{promise}
 use Rattle.parse.proofs.WellSheetLaws.{exactly}
 use Rattle.parse.proofs.RefusalLaws.{refusal, refusal-number}
@@ -32,7 +33,7 @@ use Rattle.model.specs.Rules.{faulty, fault}
 use Rattle.model.specs.Order.{problem}
 use Rattle.model.specs.Unsettled.{unsettledPair}
 use Rattle.model.specs.Judged.{needed, Breaks, settledOf, JudgedConsistent, Judged}
-use Rattle.model.specs.Demands.{IsRefused, IsConsistent, Result, Refuses, by-sheet, short-scratch, short-order, Demand1, Allowed, Meant, Demand2, Testable, Demand3, Agreement, SaysTheVerdict, OneVerdict, NeverShort, OneRowEach, Leaves, LeavesZero, FitsWord, SameWord, InitsFirst, FirstNamed, LowestPair, Reduction}
+use Rattle.model.specs.Demands.{IsRefused, IsConsistent, Result, Refuses, by-sheet, short-scratch, short-order, Demand1, Allowed, Meant, Demand2, Testable, Demand3, Agreement, SaysTheVerdict, OneVerdict, NeverShort, OneRowEach, EveryAgent, Leaves, LeavesZero, FitsWord, SameWord, InitsFirst, FirstNamed, LowestPair, Reduction}
 use Rattle.model.proofs.Sound.{Sound, sound}
 use Rattle.model.proofs.UnsettledLaws.{none-orderly, orderly-none}
 use Rattle.model.proofs.Serial.{explains}
@@ -208,13 +209,19 @@ pub one-verdict : OneVerdict
 one-verdict = verdict-unique
 
 pub never-short : NeverShort
-never-short s n p o v = (refusal s n p (v .says), refusal-number s n p (v .says) .1)
+never-short s n p o v = (refusal s n p (v .says), ⊎-elim (λ w. inl (w .1)) inr (refusal-number s n p (v .says)))
 
 pub one-row-each : OneRowEach
 one-row-each s scratch order answer scratch′ order′ h j =
     let d = judged-sheet s scratch order answer scratch′ order′ h j in
     let w = exactly s (d .0) .0 (d .1) in
     record { execution = d .0; sheet = w; one-row = w .well-formed .row-for-each }
+
+pub every-agent : EveryAgent
+every-agent s scratch order answer scratch′ order′ h j =
+    let d = judged-sheet s scratch order answer scratch′ order′ h j in
+    let w = exactly s (d .0) .0 (d .1) in
+    subst EachAppears (sym (w .describes)) (w .well-formed .each-appears)
 
 pub leaves-zero : LeavesZero
 leaves-zero s scratch order (Refused n p) scratch′ order′ x w h j = absurd (h (n, p, refl))

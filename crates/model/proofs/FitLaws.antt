@@ -58,7 +58,7 @@ module _ (n p : ℕ) where
     where
       go : Dec (maxBytes < length s) → (n < 256) × (p < 2 ^ 32)
       go (yes h) = let q : refused n p ≡ refused 1 0 = sym e ∙ too-long s h in let a : n ≡ 1 = cc in let b : p ≡ 0 = cc in (omega arith, omega arith)
-      go (no h) = let a = refusal-number s n p e in let b = refusal-place s n p e in (omega arith, omega arith)
+      go (no h) = let b = refusal-place s n p e in (⊎-elim (λ w. omega (arith, w .1)) (λ q. omega arith) (refusal-number s n p e), omega arith)
 
   refusal-fits : (s : List ℕ) (room places : ℕ) → admitted s room places ≡ refused n p → (n < 256) × (p < 2 ^ 32)
   refusal-fits s room places e = ⊎-elim (parsed-fits s) (short-fits s room places n p) (refused-cases s room places n p e)

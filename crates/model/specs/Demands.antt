@@ -5,15 +5,15 @@
 --     LeavesZero     what both buffers hold behind an answer that is no refusal
 --     Agreement      two answers agree, buffers too                            SaysTheVerdict    lent enough, the answer is the sheet's own
 --     OneVerdict     of a sheet one thing is to be said                        NeverShort        and that is never 12 or 13
---     OneRowEach     what is judged has one row for each read byte
+--     OneRowEach     what is judged has one row for each read byte             EveryAgent        and an event of each agent that its head promises
 --     FitsWord       every answer fits the exported word                       SameWord          one word, one answer
 --     InitsFirst     the order that is reported begins with the inits          FirstNamed, LowestPair     the rule, the pair that is named is the first
 --     LitmusRight    the entries of a table, each Judged                       Reduction         today's sheets: 01's sentences over events
--- "Well-formed" is `WellSheet s x` (sheet/specs/WellSheet.antt): 01's bullets, said without the reader, and `Exactly` there: the reader accepts
+-- "Well-formed" is `WellSheet s x` (parse/specs/WellSheet.antt): 01's bullets and 02 §1, said without the reader, and `Exactly` there: the reader accepts
 -- the well-formed sheets and no others.
 -- Assumes nothing.
 use mathlib.Core.Path.{_≡_}
-use mathlib.Core.Logic.{_↔_}
+use mathlib.Core.Logic.{_⊎_, _↔_}
 use mathlib.Core.Bool.{Bool}
 use mathlib.Core.List.{List, _++_, List·Memᴰ}
 use mathlib.Core.Option.{none}
@@ -24,7 +24,7 @@ use Rattle.basis.specs.Test.{from}
 use Rattle.format.specs.Limits.{maxEvents}
 use Rattle.format.specs.Event.{readsAt}
 use Rattle.format.specs.Execution.{Execution, event, inits, others}
-use Rattle.parse.specs.Promise.{OneRow}
+use Rattle.parse.specs.Promise.{OneRow, EachAppears}
 use Rattle.parse.specs.Described.{described, Rowless}
 use Rattle.parse.specs.WellSheet.{WellSheet}
 use Rattle.parse.specs.Refusal.{Refusal}
@@ -131,9 +131,9 @@ SaysTheVerdict = (s scratch order : List ℕ) (answer : Answer) (scratch′ orde
 abbrev pub OneVerdict : Type 0
 OneVerdict = (s : List ℕ) (a b : Answer) (o q : List ℕ) → Verdict s a o → Verdict s b q → (a ≡ b) × (o ≡ q)
 
--- a verdict that refuses is by the sheet's own rows of the table: 1 to 11
+-- a verdict that refuses is by the sheet's own rows of the table: 1 to 11, and 02's 14
 abbrev pub NeverShort : Type 0
-NeverShort = (s : List ℕ) (n p : ℕ) (o : List ℕ) → Verdict s (Refused n p) o → Refusal s n p × (n ≤ 11)
+NeverShort = (s : List ℕ) (n p : ℕ) (o : List ℕ) → Verdict s (Refused n p) o → Refusal s n p × ((n ≤ 11) ⊎ (n ≡ 14))
 
 -- Where the answer is not a refusal, the sheet is well-formed, and each byte of each read has exactly one row.
 pub record RowForEach (s : List ℕ) : Type 0 where
@@ -144,6 +144,11 @@ pub record RowForEach (s : List ℕ) : Type 0 where
 abbrev pub OneRowEach : Type 0
 OneRowEach = (s scratch order : List ℕ) (answer : Answer) (scratch′ order′ : List ℕ) → (IsRefused answer → ⊥)
     → Judged s scratch order answer scratch′ order′ → RowForEach s
+
+-- 02 §1. Where the answer is not a refusal, each agent from 1 to the head's count has an event, as the sheet's fields describe them.
+abbrev pub EveryAgent : Type 0
+EveryAgent = (s scratch order : List ℕ) (answer : Answer) (scratch′ order′ : List ℕ) → (IsRefused answer → ⊥)
+    → Judged s scratch order answer scratch′ order′ → EachAppears (described s)
 
 -- 01: "Broken: the needed part of the scratch is zero, the rest and the order buffer unchanged. Consistent: the same for the scratch, and the order
 -- buffer's first bytes, one for each event, hold the order; its rest is unchanged." n is the number of events that are not inits.

@@ -109,6 +109,20 @@ further =
     ∷ judged (sheet (head 3 4 ∷ init 0 (replicate 4 0) ∷ write 1 unordered 0 (replicate 4 1) ∷ write 2 unordered 0 (replicate 4 2) ∷ read 3 unordered 0 (1 ∷ 2 ∷ 2 ∷ 2 ∷ []) ∷ row 3 0 1 ∷ row 3 1 2 ∷ row 3 2 2 ∷ row 3 3 2 ∷ [])) (Broken 25 (Torn 3 1 2)) []
     -- f33-width-8-all-sc-torn: Further entry 33: width 8, all sc, an sc read of both writes
     ∷ judged (sheet (head 3 8 ∷ init 0 (replicate 8 0) ∷ write 1 sc 0 (replicate 8 1) ∷ write 2 sc 0 (replicate 8 2) ∷ read 3 sc 0 (1 ∷ 2 ∷ 2 ∷ 2 ∷ 2 ∷ 2 ∷ 2 ∷ 2 ∷ []) ∷ row 3 0 1 ∷ row 3 1 2 ∷ row 3 2 2 ∷ row 3 3 2 ∷ row 3 4 2 ∷ row 3 5 2 ∷ row 3 6 2 ∷ row 3 7 2 ∷ [])) (Broken 25 (Torn 3 1 2)) []
+    -- s1a-log-of-the-third-agent-lost: 02 §1: the log of the third agent is lost (A1 x=1 sc, A2 x reads 1 sc; the head promises three agents)
+    ∷ judged (sheet (head 3 1 ∷ init 0 (0 ∷ []) ∷ write 1 sc 0 (1 ∷ []) ∷ read 2 sc 0 (1 ∷ []) ∷ row 2 0 1 ∷ [])) (Refused 14 39) []
+    -- s1b-an-agent-with-only-a-marker: 02 §1: "A marker counts as an event."
+    ∷ judged (sheet (head 3 1 ∷ init 0 (0 ∷ []) ∷ write 1 sc 0 (1 ∷ []) ∷ read 2 sc 0 (1 ∷ []) ∷ marker 3 ∷ row 2 0 1 ∷ [])) (Consistent Orderly) (0 ∷ 1 ∷ 2 ∷ 3 ∷ [])
+    -- s1c-nothing-reads-and-an-agent-is-missing: 02 §1: 10 before 14
+    ∷ judged (sheet (head 2 1 ∷ init 0 (0 ∷ []) ∷ write 1 unordered 0 (1 ∷ []) ∷ [])) (Refused 10 24) []
+    -- s1d-an-agent-and-a-row-are-missing: 02 §1: 14 before 11
+    ∷ judged (sheet (head 2 1 ∷ init 0 (0 ∷ []) ∷ read 1 unordered 0 (0 ∷ []) ∷ [])) (Refused 14 24) []
+    -- s1e-last-of-eight-agents-missing: 02 §1: of eight agents the last is missing
+    ∷ judged (sheet (head 8 1 ∷ init 0 (0 ∷ []) ∷ read 1 sc 0 (0 ∷ []) ∷ read 2 sc 0 (0 ∷ []) ∷ read 3 sc 0 (0 ∷ []) ∷ read 4 sc 0 (0 ∷ []) ∷ read 5 sc 0 (0 ∷ []) ∷ read 6 sc 0 (0 ∷ []) ∷ read 7 sc 0 (0 ∷ []) ∷ row 1 0 0 ∷ row 2 0 0 ∷ row 3 0 0 ∷ row 4 0 0 ∷ row 5 0 0 ∷ row 6 0 0 ∷ row 7 0 0 ∷ [])) (Refused 14 120) []
+    -- s1f-eight-agents-in-falling-order: 02 §1: agents 1 to 8 are all there, the last one first
+    ∷ judged (sheet (head 8 1 ∷ init 0 (0 ∷ []) ∷ read 8 sc 0 (0 ∷ []) ∷ read 7 sc 0 (0 ∷ []) ∷ read 6 sc 0 (0 ∷ []) ∷ read 5 sc 0 (0 ∷ []) ∷ read 4 sc 0 (0 ∷ []) ∷ read 3 sc 0 (0 ∷ []) ∷ read 2 sc 0 (0 ∷ []) ∷ read 1 sc 0 (0 ∷ []) ∷ row 1 0 0 ∷ row 2 0 0 ∷ row 3 0 0 ∷ row 4 0 0 ∷ row 5 0 0 ∷ row 6 0 0 ∷ row 7 0 0 ∷ row 8 0 0 ∷ [])) (Consistent Orderly) (0 ∷ 1 ∷ 2 ∷ 3 ∷ 4 ∷ 5 ∷ 6 ∷ 7 ∷ 8 ∷ [])
+    -- s1g-first-agent-missing: 02 §1: of two agents the first is missing
+    ∷ judged (sheet (head 2 1 ∷ init 0 (0 ∷ []) ∷ read 2 unordered 0 (0 ∷ []) ∷ row 1 0 0 ∷ [])) (Refused 14 30) []
     -- 01-example, lent a scratch of 1 and an order buffer of 2
     ∷ lending 1 2 example (Consistent Orderly) (0 ∷ 1 ∷ [])
     -- 01-example, lent a scratch of 0 and an order buffer of 2

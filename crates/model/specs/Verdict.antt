@@ -30,7 +30,7 @@ use Rattle.model.specs.Judged.{Breaks, settledOf}
 abbrev pub maxScratch : ℕ
 maxScratch = bytesFor maxOthers
 
--- refused by 1 to 11
+-- refused by 1 to 11 or 14
 pub record SaidRefused (s : List ℕ) (n p : ℕ) (o : List ℕ) : Type 0 where
   pub says : parse s ≡ refused n p
   pub no-order : o ≡ []

@@ -34,9 +34,10 @@ use Rattle.format.specs.Execution.{Execution, eventNo, event, inits, others, ro
 use Rattle.format.specs.Layout.{editionOf, headBytes, eventBytes, dataBytes, rowBytes, pairBytes, headOf, agentOf, shapeOf, accessOf, eventOf, rowOf, pairOf}
 use Rattle.content.specs.Content.{headFits, inside, formed, alone, standsFirst, eventFits, roomIn, roomFor, joins, rowRises, rowFits, parts, pairRises, pairFits}
 use Rattle.content.proofs.ContentLaws.{SizedFacts, KindFacts, a-read, a-write, both, a-marker, InitFacts, OtherFacts, formed-holds, head-holds}
-use Rattle.parse.specs.Parse.{whole, State, headFault, eventFault, eventFaultBy, rowFault, pairFault, lacks, lowestLacking, completed, finish}
+use Rattle.parse.specs.Parse.{whole, State, headFault, eventFault, eventFaultBy, rowFault, pairFault, lacks, lowestLacking, missing, completed, finish}
 use Rattle.parse.specs.Promise.{WellEvent, WellFormed, row}
 use Rattle.parse.proofs.LackLaws.{lacks-rowless}
+use Rattle.parse.proofs.AppearLaws.{none-missing}
 
 -- ---- tests
 
@@ -249,5 +250,6 @@ module _ (x : Execution) (w : WellFormed x) where
   ends s st t g =
       let a : eqb (st .tag) 0 ≡ false = ne-eqb _ _ (λ (z : st .tag ≡ 0). omega arith) in
       let b : any readsSome (st .got .events) ≡ true = ap (λ (y : Execution). any readsSome (y .events)) g ∙ some-reads in
+      let m : missing (st .got) ≡ false = ap missing g ∙ none-missing x (w .each-appears) in
       let c : lowestLacking (st .got) ≡ none = ap lowestLacking g ∙ no-lack in
-      rw (a, b, c) (ap whole g)
+      rw (a, b, m, c) (ap whole g)

@@ -1,6 +1,7 @@
 pub mod ParseLaws
 pub mod EventLaws
 pub mod LackLaws
+pub mod AppearLaws
 pub mod LadderLaws
 pub mod PromiseLaws
 pub mod DescribedLaws

@@ -24,7 +24,7 @@ use Rattle.format.specs.Field.{fieldBytes, tagAt, lengthAt, nextAt, valueAt}
 use Rattle.format.specs.Layout.{eventBytes, dataBytes, rowBytes, pairBytes, agentOf, shapeOf}
 use Rattle.content.specs.Content.{eventFits, roomFor}
 use Rattle.content.proofs.ContentLaws.{within-elim}
-use Rattle.parse.specs.Parse.{Parsed, refused, whole, State, placeOf, blank, allowed, headFault, eventFault, eventFaultBy, rowFault, pairFault, valueFault, valueFaultBy, faultAt, faultBy, after, lowestLacking, completed, finish, fieldsFrom, parse}
+use Rattle.parse.specs.Parse.{Parsed, refused, whole, State, placeOf, blank, allowed, headFault, eventFault, eventFaultBy, rowFault, pairFault, valueFault, valueFaultBy, faultAt, faultBy, after, lowestLacking, missing, completed, finish, fieldsFrom, parse}
 
 -- ---- tests
 
@@ -158,23 +158,25 @@ module _ (s : List ℕ) where
 pub data Finished (s : List ℕ) (st : State) : Parsed → Type 0 where
   headless : st .tag ≡ 0 → Finished s st (refused 3 0)
   none-reads : 0 < st .tag → any readsSome (st .got .events) ≡ false → Finished s st (refused 10 (length s))
-  rowless : (e : ℕ) → 0 < st .tag → any readsSome (st .got .events) ≡ true → lowestLacking (st .got) ≡ some e
+  absent : 0 < st .tag → any readsSome (st .got .events) ≡ true → missing (st .got) ≡ true → Finished s st (refused 14 (length s))
+  rowless : (e : ℕ) → 0 < st .tag → any readsSome (st .got .events) ≡ true → missing (st .got) ≡ false → lowestLacking (st .got) ≡ some e
       → Finished s st (refused 11 (placeOf 11 (getD (st .places) e 0)))
-  complete : 0 < st .tag → any readsSome (st .got .events) ≡ true → lowestLacking (st .got) ≡ none → Finished s st (whole (st .got))
+  complete : 0 < st .tag → any readsSome (st .got .events) ≡ true → missing (st .got) ≡ false → lowestLacking (st .got) ≡ none → Finished s st (whole (st .got))
 
 pub finished : (s : List ℕ) (st : State) → Finished s st (finish s st)
 unfolding finish completed non
-finished s st = go (eqb (st .tag) 0) refl (any readsSome (st .got .events)) refl (lowestLacking (st .got)) refl
+finished s st = go (eqb (st .tag) 0) refl (any readsSome (st .got .events)) refl (missing (st .got)) refl (lowestLacking (st .got)) refl
   where
     above : (n : ℕ) → eqb n 0 ≡ false → 0 < n
     above n p = let d = eqb-false n 0 p in omega arith
 
-    go : (a : Bool) → eqb (st .tag) 0 ≡ a → (b : Bool) → any readsSome (st .got .events) ≡ b → (o : Option ℕ) → lowestLacking (st .got) ≡ o
-        → Finished s st (cond a (refused 3 0) (cond (non b) (refused 10 (length s)) (completed st o)))
-    go true p b q o r = headless (eqb-true _ _ p)
-    go false p false q o r = none-reads (above _ p) q
-    go false p true q none r = complete (above _ p) q r
-    go false p true q (some e) r = rowless e (above _ p) q r
+    go : (a : Bool) → eqb (st .tag) 0 ≡ a → (b : Bool) → any readsSome (st .got .events) ≡ b → (m : Bool) → missing (st .got) ≡ m → (o : Option ℕ) → lowestLacking (st .got) ≡ o
+        → Finished s st (cond a (refused 3 0) (cond (non b) (refused 10 (length s)) (cond m (refused 14 (length s)) (completed st o))))
+    go true p b q m t o r = headless (eqb-true _ _ p)
+    go false p false q m t o r = none-reads (above _ p) q
+    go false p true q true t o r = absent (above _ p) q t
+    go false p true q false t none r = complete (above _ p) q t r
+    go false p true q false t (some e) r = rowless e (above _ p) q t r
 
 pub not-whole : {A : Type 0} {n p : ℕ} {x : Execution} → refused n p ≡ whole x → A
 not-whole e = let z : _≡_ {A = ℕ} 0 1 = cc in absurd (omega arith)
@@ -183,6 +185,7 @@ not-whole e = let z : _≡_ {A = ℕ} 0 1 = cc in absurd (omega arith)
 pub record Completed (st : State) (x : Execution) : Type 0 where
   pub tagged : 0 < st .tag
   pub some-reads : any readsSome (st .got .events) ≡ true
+  pub none-missing : missing (st .got) ≡ false
   pub no-lack : lowestLacking (st .got) ≡ none
   pub got : st .got ≡ x
 
@@ -192,5 +195,6 @@ finished-whole s st x e = go (finished s st) e
     go : {v : Parsed} → Finished s st v → v ≡ whole x → Completed st x
     go (headless t) f = not-whole f
     go (none-reads t r) f = not-whole f
-    go (rowless d t r l) f = not-whole f
-    go (complete t r l) f = record { tagged = t; some-reads = r; no-lack = l; got = (let z : whole (st .got) ≡ whole x = f in cc) }
+    go (absent t r m) f = not-whole f
+    go (rowless d t r m l) f = not-whole f
+    go (complete t r m l) f = record { tagged = t; some-reads = r; none-missing = m; no-lack = l; got = (let z : whole (st .got) ≡ whole x = f in cc) }

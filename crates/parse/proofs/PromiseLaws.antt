@@ -29,6 +29,7 @@ use Rattle.format.proofs.ExecutionLaws.{row-trans, pair-trans}
 use Rattle.parse.specs.Promise.{WellEvent, row, OneRow, WellFormed}
 use Rattle.parse.proofs.ParseLaws.{no-fault-non, not-whole, finished-whole, event-passed, was-none, was-2, was-3, was-4, known, head-clean, event-clean, row-clean, pair-clean, at-end, at-fault, at-field}
 use Rattle.parse.proofs.LackLaws.{has-row}
+use Rattle.parse.proofs.AppearLaws.{each-appear}
 use Rattle.content.proofs.ContentLaws.{head-facts, room-init, room-other, JoinedFacts, joined, PartedFacts, parted}
 use Rattle.parse.proofs.EventLaws.{well-event, stands-first}
 
@@ -348,6 +349,7 @@ well-formed s x st k e =
       pair-agents = λ j b. k .pairs .parts j b .agents;
       pairs-rise = k .pairs .rise;
       pairs-few = k .pairs .few;
+      each-appears = each-appear (st .got) (f .none-missing);
       some-read = some-at nobody readsSome (st .got .events) (f .some-reads);
     })
 

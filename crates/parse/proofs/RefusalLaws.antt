@@ -1,7 +1,7 @@
 -- Every refusal of `parse` is by a row of 01's table: specs/Refusal.antt. Kept field by field, then the tests after all fields. So the fuel never runs out.
 --     refusal : RefusedByTable
 --     blames-number : Blames s k n → (2 ≤ n) × (n ≤ 9)
---     refusal-number : parse s ≡ refused n p → (1 ≤ n) × (n ≤ 11)
+--     refusal-number : parse s ≡ refused n p → ((1 ≤ n) × (n ≤ 11)) ⊎ (n ≡ 14)
 --     refusal-place : parse s ≡ refused n p → p ≤ length s
 -- Assumes nothing.
 use mathlib.Core.Path.{_≡_, refl, sym, ap, _∙_, subst}
@@ -25,12 +25,14 @@ use Rattle.format.specs.Event.{Event, nobody, readsSome}
 use Rattle.format.specs.Execution.{Execution, event, eventNo}
 use Rattle.format.specs.Field.{tagAt, valueAt, fieldPlace}
 use Rattle.parse.specs.Parse.{Parsed, refused, placeOf, State, blank, faultAt, taken, after, finish, fieldsFrom, parse}
+use Rattle.parse.specs.Promise.{HasEvent, EachAppears}
 use Rattle.parse.specs.Described.{fieldsTaken, described, RowlessAt}
 use Rattle.parse.specs.Refusal.{stateNo, faultNo, Faultless, tagNo, Blames, Refusal, RefusedByTable}
-use Rattle.parse.proofs.ParseLaws.{Finished, headless, none-reads, rowless, complete, finished, not-whole, inside, was-none, was-2, known, at-end, at-fault, at-field}
+use Rattle.parse.proofs.ParseLaws.{Finished, headless, none-reads, absent, rowless, complete, finished, not-whole, inside, was-none, was-2, known, at-end, at-fault, at-field}
 use Rattle.parse.proofs.DescribedLaws.{taken-end, taken-more}
 use Rattle.format.proofs.ExecutionLaws.{event-inside}
 use Rattle.parse.proofs.LackLaws.{OneAccess, lowest-rowless}
+use Rattle.parse.proofs.AppearLaws.{each-appear, one-missing}
 use Rattle.parse.proofs.LadderLaws.{lastTag, rung, blamed}
 
 -- ---- what is known before field number k
@@ -219,13 +221,17 @@ module _ (s : List ℕ) (n p : ℕ) (short : length s ≤ maxBytes) where
               omega arith
       go (none-reads t r) f =
           given (Refusal.none-reads short (faultless s k b clean) (λ i. subst (λ (x : Execution). T (readsSome (event x i)) → ⊥) g (none-read (st .got) r i))) f
-      go (complete t r l) f = not-whole (sym f)
-      go (rowless i t r l) f =
+      go (complete t r u l) f = not-whole (sym f)
+      go (absent t r u) f =
+          let a = some-read (st .got) r in
+          let z = subst (λ (x : Execution). (c : ℕ) × (1 ≤ c) × (c ≤ x .head .agents) × (HasEvent x c → ⊥)) g (one-missing (st .got) u) in
+          given (Refusal.no-event (z .0) short (faultless s k b clean) (a .0) (subst (λ (x : Execution). T (readsSome (event x (a .0)))) g (a .1)) (z .1) (z .2) (z .3)) f
+      go (rowless i t r u l) f =
           let y = lowest-rowless (st .got) i (w .one) l in
           let m : i < length (st .places) = let c = w .same in let d = y .0 in omega arith in
           let a = some-read (st .got) r in
           given
-          (Refusal.no-row i short (faultless s k b clean) (a .0) (subst (λ (x : Execution). T (readsSome (event x (a .0)))) g (a .1)) (w .event-tag i m) (subst (λ (x : Execution). RowlessAt x i) g (y .1)) (λ d h x. y .2 d h (subst (λ (z : Execution). RowlessAt z d) (sym g) x)))
+          (Refusal.no-row i short (faultless s k b clean) (a .0) (subst (λ (x : Execution). T (readsSome (event x (a .0)))) g (a .1)) (subst EachAppears g (each-appear (st .got) u)) (w .event-tag i m) (subst (λ (x : Execution). RowlessAt x i) g (y .1)) (λ d h x. y .2 d h (subst (λ (z : Execution). RowlessAt z d) (sym g) x)))
           (ap (refused 11) (sym (place-is 11 _ ∙ w .event-place i m)) ∙ f)
 
   -- from field number k on, with fuel f
@@ -287,15 +293,17 @@ blames-number (Blames.one-init-more h i j) = (omega arith, omega arith)
 blames-number (Blames.one-other-more h i j) = (omega arith, omega arith)
 blames-number (Blames.one-pair-more h j) = (omega arith, omega arith)
 
-pub refusal-number : (s : List ℕ) (n p : ℕ) → parse s ≡ refused n p → (1 ≤ n) × (n ≤ 11)
+-- 1 to 11, and 02's 14
+pub refusal-number : (s : List ℕ) (n p : ℕ) → parse s ≡ refused n p → ((1 ≤ n) × (n ≤ 11)) ⊎ (n ≡ 14)
 refusal-number s n p e = go (refusal s n p e)
   where
-    go : {m o : ℕ} → Refusal s m o → (1 ≤ m) × (m ≤ 11)
-    go (Refusal.too-long h) = (omega arith, omega arith)
-    go (Refusal.at-field k l h b) = let w = blames-number (b .blames) in (omega arith, omega arith)
-    go (Refusal.empty h) = (omega arith, omega arith)
-    go (Refusal.none-reads l f h) = (omega arith, omega arith)
-    go (Refusal.no-row i l f d a t r h) = (omega arith, omega arith)
+    go : {m o : ℕ} → Refusal s m o → ((1 ≤ m) × (m ≤ 11)) ⊎ (m ≡ 14)
+    go (Refusal.too-long h) = inl (omega arith, omega arith)
+    go (Refusal.at-field k l h b) = let w = blames-number (b .blames) in inl (omega arith, omega arith)
+    go (Refusal.empty h) = inl (omega arith, omega arith)
+    go (Refusal.none-reads l f h) = inl (omega arith, omega arith)
+    go (Refusal.no-event a l f d r i j h) = inr refl
+    go (Refusal.no-row i l f d a u t r h) = inl (omega arith, omega arith)
 
 pub refusal-place : (s : List ℕ) (n p : ℕ) → parse s ≡ refused n p → p ≤ length s
 refusal-place s n p e = go (refusal s n p e)
@@ -312,4 +320,5 @@ refusal-place s n p e = go (refusal s n p e)
     go (Refusal.at-field k l h b) = omega arith
     go (Refusal.empty h) = omega arith
     go (Refusal.none-reads l f h) = omega arith
-    go (Refusal.no-row i l f d a t r h) = tagged (fieldPlace s (suc i)) t
+    go (Refusal.no-event a l f d r i j h) = omega arith
+    go (Refusal.no-row i l f d a u t r h) = tagged (fieldPlace s (suc i)) t

@@ -7,7 +7,7 @@
 use mathlib.Core.Path.{_≡_}
 use mathlib.Core.List.{List, [], _∷_, _++_}
 use Prim.Native.Nat.{ℕ}
-use lib.ListN.{length, take}
+use lib.ListN.{length, take, drop}
 use Rattle.basis.specs.Test.{each}
 use Rattle.parse.specs.Parse.{Parsed, refused, whole, parse}
 
@@ -56,6 +56,14 @@ examples =
     ∷ of (take 24 example) (refused 11 15)
     ∷ of (take 6 example) (refused 10 6)
     ∷ of [] (refused 3 0)
+    -- 02 §1: the head promises an agent without an event (14); before 14 comes that nothing reads (10), behind it a read byte without a row (11); a
+    -- marker is an event; the last of three agents is asked for, and the first
+    ∷ of (head 2 1 ++ drop 6 example) (refused 14 30)
+    ∷ of (head 2 1 ++ init 0) (refused 10 15)
+    ∷ of (head 2 1 ++ drop 6 (take 24 example)) (refused 14 24)
+    ∷ of (head 2 1 ++ drop 6 (take 24 example) ++ marker 2) (refused 11 15)
+    ∷ of (head 3 1 ++ drop 6 (take 24 example) ++ marker 2) (refused 14 32)
+    ∷ of (head 2 1 ++ init 0 ++ (2 ∷ 0 ∷ 6 ∷ 2 ∷ 1 ∷ 1 ∷ 0 ∷ 1 ∷ 0 ∷ [])) (refused 14 24)
     -- fewer than three bytes left; a value past the end; an unknown tag; a second head; no head
     ∷ of (take 8 example) (refused 2 6)
     ∷ of (take 29 example) (refused 2 24)

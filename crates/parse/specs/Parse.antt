@@ -1,4 +1,4 @@
--- What a sheet says (01, "The sheet" and "Numbers of the refusals"): any bytes are refused, by number and place, or describe an execution.
+-- What a sheet says (01, "The sheet" and "Numbers of the refusals"; 02 §1): any bytes are refused, by number and place, or describe an execution.
 -- Laws: proofs/ParseLaws.antt, proofs/PromiseLaws.antt.
 --     Parsed, parse                 the answer of the reader
 --     placeOf                       a refusal's place, from its number and the place of the field's tag
@@ -127,16 +127,26 @@ lacks rows e d =
 unfoldable pub lowestLacking : Execution → Option ℕ
 lowestLacking x = find (λ (e : ℕ). lacks (x .rows) e (eventNo (x .events) e)) (from 0 (length (x .events)))
 
+-- 02 §1: agent a has an event; "A marker counts as an event."
+unfoldable pub appears : List Event → ℕ → Bool
+appears events a = any (λ (d : Event). eqb (d .agent) a) events
+
+-- 02 §1: "a head that promises an agent with no event"; agents are numbered from 1 to the head's count
+unfoldable pub missing : Execution → Bool
+missing x = any (λ (a : ℕ). non (appears (x .events) a)) (from 1 (x .head .agents))
+
 unfoldable pub completed : State → Option ℕ → Parsed
 completed st none = whole (st .got)
 completed st (some e) = refused 11 (placeOf 11 (getD (st .places) e 0))
 
--- after all fields: no head, which only the empty sheet comes to (3), no event reads (10), a read byte without a row (11)
+-- after all fields: no head, which only the empty sheet comes to (3), no event reads (10), an agent without an event (02 §1: 14, "place the sheet
+-- length, tested after 10 and before 11"), a read byte without a row (11)
 unfoldable pub finish : List ℕ → State → Parsed
 finish s st =
     cond (eqb (st .tag) 0) (refused 3 0)
     (cond (non (any readsSome (st .got .events))) (refused 10 (length s))
-    (completed st (lowestLacking (st .got))))
+    (cond (missing (st .got)) (refused 14 (length s))
+    (completed st (lowestLacking (st .got)))))
 
 -- 01: "Fields are taken front to back; the first at fault decides." The answer from place p on; k is more than the number of fields left.
 unfoldable pub fieldsFrom : List ℕ → ℕ → ℕ → State → Parsed

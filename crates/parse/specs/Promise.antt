@@ -1,7 +1,8 @@
--- What the reader promises of an execution: all that 01, "The sheet", says of a well-formed one. The judge and its theorems use only this.
+-- What the reader promises of an execution: all that 01, "The sheet", and 02 §1 say of a well-formed one. The judge and its theorems use only this.
 -- Proved of `parse` in proofs/PromiseLaws.antt (`promise`); laws for those who cite it, over membership in the lists: crates/model/proofs/Sound.antt.
 --     WellEvent h d                 event d by itself, under the head h
 --     OneRow x e n                  exactly one row for byte n of event e
+--     HasEvent x a, EachAppears x   agent a has an event; each agent that the head promises has one
 --     WellFormed x                  the whole execution
 -- Assumes nothing.
 use mathlib.Core.Path.{_≡_}
@@ -63,6 +64,14 @@ pub record OneRow (x : Execution) (e n : ℕ) : Type 0 where
   pub address : row x number .address ≡ n
   pub only : (j : ℕ) → j < length (x .rows) → row x j .reader ≡ e → row x j .address ≡ n → j ≡ number
 
+-- agent a has an event
+abbrev pub HasEvent : Execution → ℕ → Type 0
+HasEvent x a = (e : ℕ) × (e < length (x .events)) × (event x e .agent ≡ a)
+
+-- 02 §1: each agent from 1 to the head's count has an event; "A marker counts as an event."
+abbrev pub EachAppears : Execution → Type 0
+EachAppears x = (a : ℕ) → 1 ≤ a → a ≤ x .head .agents → HasEvent x a
+
 pub record WellFormed (x : Execution) : Type 0 where
   -- "edition (1), agents (1 to 8), memory size in bytes (1 to 64)"
   pub edition : x .head .edition ≡ 1
@@ -89,5 +98,7 @@ pub record WellFormed (x : Execution) : Type 0 where
   pub pair-agents : (j : ℕ) → j < length (x .pairs) → event x (pair x j .first) .agent ≡ event x (pair x j .second) .agent → ⊥
   pub pairs-rise : (i j : ℕ) → i < j → j < length (x .pairs) → T (pairBelow (pair x i) (pair x j))
   pub pairs-few : length (x .pairs) ≤ maxPairs
+  -- 02 §1: each agent from 1 to the head's count has an event
+  pub each-appears : EachAppears x
   -- refusal 10: some event reads
   pub some-read : (e : ℕ) × (e < length (x .events)) × T (readsSome (event x e))

@@ -20,6 +20,7 @@ use Rattle.format.specs.Field.{tagAt, nextAt, valueAt, fieldPlace}
 use Rattle.format.specs.Layout.{editionOf, headOf, agentOf, shapeOf, rowOf, pairOf}
 use Rattle.content.specs.Content.{headFits, eventFits, rowFits, pairFits}
 use Rattle.parse.specs.Parse.{refused, State, blank, faultAt, after, parse}
+use Rattle.parse.specs.Promise.{HasEvent, EachAppears}
 use Rattle.parse.specs.Described.{described, RowlessAt}
 use Rattle.parse.specs.Framed.{Long}
 
@@ -83,9 +84,12 @@ pub data Refusal (s : List ℕ) : ℕ → ℕ → Type 0 where
   empty : length s ≡ 0 → Refusal s 3 0
   -- "10 no event reads: sheet length"; "10 to 13 are tested in that order after all fields."
   none-reads : length s ≤ maxBytes → Faultless s → ((e : ℕ) → T (readsSome (event (described s) e)) → ⊥) → Refusal s 10 (length s)
+  -- 02 §1: "a head that promises an agent with no event is refused, number 14, place the sheet length, tested after 10 and before 11"
+  no-event : (a : ℕ) → length s ≤ maxBytes → Faultless s → (d : ℕ) → T (readsSome (event (described s) d)) → 1 ≤ a → a ≤ described s .head .agents
+      → (HasEvent (described s) a → ⊥) → Refusal s 14 (length s)
   -- "11 a read byte without a row: tag of the lowest such event"; the head is field 0, event e field 1 + e
-  no-row : (e : ℕ) → length s ≤ maxBytes → Faultless s → (d : ℕ) → T (readsSome (event (described s) d)) → tagNo s (suc e) ≡ 2 → RowlessAt (described s) e
-      → ((d : ℕ) → d < e → RowlessAt (described s) d → ⊥) → Refusal s 11 (fieldPlace s (suc e))
+  no-row : (e : ℕ) → length s ≤ maxBytes → Faultless s → (d : ℕ) → T (readsSome (event (described s) d)) → EachAppears (described s) → tagNo s (suc e) ≡ 2
+      → RowlessAt (described s) e → ((d : ℕ) → d < e → RowlessAt (described s) d → ⊥) → Refusal s 11 (fieldPlace s (suc e))
 
 abbrev pub RefusedByTable : Type 0
 RefusedByTable = (s : List ℕ) (n p : ℕ) → parse s ≡ refused n p → Refusal s n p

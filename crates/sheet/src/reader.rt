@@ -179,6 +179,10 @@ fn finish(s: &[u8], last: u8, x: Counts, at: &[u16]) -> Reading
     if !some {
         return Reading::Refused(10, s.len() as u32);
     }
+    let lost = agents::missing(s, x, at);
+    if lost {
+        return Reading::Refused(14, s.len() as u32);
+    }
     let lack = lacking::lowest_lacking(s, x, at);
     match lack {
         Lack::Nothing => Reading::Whole,

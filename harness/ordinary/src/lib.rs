@@ -107,6 +107,7 @@ fn read(sheet: &[u8]) -> Result<Read, (u8, usize)> {
     let mut last_tag = 0;
     let mut covered = 0u64; // the bytes that inits cover
     let mut reads = false;
+    let mut present = 1u16; // the agents that have events, and agent 0
     let mut rows_of = [0u8; SLOTS];
     let mut at = 0;
     while at < sheet.len() {
@@ -181,6 +182,7 @@ fn read(sheet: &[u8]) -> Result<Read, (u8, usize)> {
                     return Err((9, at));
                 }
                 reads |= kind & 1 != 0;
+                present |= 1 << agent;
                 r.at[r.events] = at as u16 + 3;
                 r.events += 1;
             }
@@ -238,6 +240,9 @@ fn read(sheet: &[u8]) -> Result<Read, (u8, usize)> {
     }
     if !reads {
         return Err((10, sheet.len()));
+    }
+    if present != (2 << r.agents) - 1 {
+        return Err((14, sheet.len()));
     }
     // rows rise strictly and lie in their reader's range, so as many as its width are one for each byte
     for e in r.inits..r.events {

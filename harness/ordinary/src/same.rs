@@ -284,6 +284,9 @@ impl<'a> Sheet<'a> {
         if !(0..self.events).any(|e| self.event(e).reads()) {
             return Err((10, self.bytes.len()));
         }
+        if !(1..=self.agents).all(|agent| (0..self.events).any(|e| self.event(e).agent == agent)) {
+            return Err((14, self.bytes.len()));
+        }
         let mut hint = 0;
         for e in 0..self.events {
             let event = self.event(e);

@@ -1,4 +1,4 @@
-//! The sheet: fields, events, rows, pairs; refusals 1 to 11 in the order of document 01.
+//! The sheet: fields, events, rows, pairs; refusals 1 to 11 in the order of document 01, and 14 (02 §1).
 
 /// "At most 4,096 bytes."
 pub const MAX_SHEET: usize = 4096;
@@ -140,7 +140,7 @@ fn place_of(_number: u8, tag_place: usize) -> usize {
     tag_place
 }
 
-/// Refusals 1 to 11, or what the sheet says.
+/// Refusals 1 to 11 and 14, or what the sheet says.
 pub fn read(sheet: &[u8]) -> Result<Execution, Refusal> {
     // "sheet over 4,096 bytes; tested before all"
     if sheet.len() > MAX_SHEET {
@@ -192,6 +192,11 @@ pub fn read(sheet: &[u8]) -> Result<Execution, Refusal> {
     // "no event reads": 10 at the sheet's length
     if !x.events.iter().any(|e| e.reads()) {
         return Err((10, sheet.len()));
+    }
+    // 02 §1: "a head that promises an agent with no event is refused, number 14, place the sheet length, tested after 10
+    // and before 11. .. A marker counts as an event."
+    if !(1..=x.agents).all(|agent| x.events.iter().any(|e| e.agent == agent)) {
+        return Err((14, sheet.len()));
     }
     // "a read byte without a row": 11 at the tag of the lowest such event
     for (number, e) in x.events.iter().enumerate() {

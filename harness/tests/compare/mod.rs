@@ -8,7 +8,7 @@ use std::fmt;
 /// How often each answer came.
 #[derive(Default)]
 pub struct Tally {
-    refused: [u64; 14],
+    refused: [u64; 15],
     broken: [u64; 6],
     orderly: u64,
     unsettled: u64,
@@ -25,7 +25,7 @@ impl Tally {
     }
 
     fn all(&self) -> Vec<(String, u64)> {
-        let refused = (1..=13).map(|n| (format!("refused {n}"), self.refused[n]));
+        let refused = (1..=14).map(|n| (format!("refused {n}"), self.refused[n]));
         let broken = (0..6).map(|n| (format!("broken {}", n + 21), self.broken[n]));
         let consistent = [("consistent orderly", self.orderly), ("consistent unsettled", self.unsettled)];
         refused.chain(broken).chain(consistent.map(|(name, times)| (name.to_string(), times))).collect()

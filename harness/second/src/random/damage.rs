@@ -139,7 +139,37 @@ fn with_others(rng: &mut Rng, mut fields: Vec<Field>, n: usize) -> Vec<Field> {
     fields
 }
 
-/// Every way to earn each of 1 to 11.
+/// The fields without the events of an agent: its log is lost, and so are the rows and pairs that name one of them. Events
+/// are numbered anew.
+fn without_agent(fields: &[Field], agent: u8) -> Vec<Field> {
+    let kept: Vec<u8> = (0..events(fields) as u8).filter(|&e| event(fields, e).value[0] != agent).collect();
+    let anew = |e: u8| kept.iter().position(|&k| k == e).map(|i| i as u8);
+    let mut left = vec![];
+    for f in fields {
+        let mut f = f.clone();
+        // where a row and a pair name events
+        let names: &[usize] = match f.tag {
+            3 => &[0, 2],
+            4 => &[0, 1],
+            _ => &[],
+        };
+        if is_event(&f) && f.value[0] == agent || names.iter().any(|&i| anew(f.value[i]).is_none()) {
+            continue;
+        }
+        names.iter().for_each(|&i| f.value[i] = anew(f.value[i]).unwrap());
+        left.push(f);
+    }
+    left
+}
+
+/// A sheet at fault as a whole: the place is its length.
+fn at_the_end(fields: Vec<Field>) -> Option<(Vec<u8>, usize)> {
+    let sheet = bytes(&fields);
+    let length = sheet.len();
+    Some((sheet, length))
+}
+
+/// Every way to earn each of 1 to 11, and 14.
 pub const WAYS: &[Way] = &[
     way(1, "over-long", |rng, fields| {
         let mut sheet = bytes(&fields);
@@ -580,6 +610,47 @@ pub const WAYS: &[Way] = &[
         let reader = fields.iter().find(|f| is_row(f))?.value[0];
         fields.retain(|f| !is_row(f));
         at(fields, 1 + reader as usize)
+    }),
+    way(14, "agent-promised", |rng, mut fields| {
+        let agents = agents(&fields);
+        if agents == 8 {
+            return None;
+        }
+        fields[0].value[1] = rng.range(agents as usize + 1, 8) as u8;
+        // 14 before 11
+        if rng.percent(30) {
+            let i = one(rng, &fields, is_row)?;
+            fields.remove(i);
+        }
+        at_the_end(fields)
+    }),
+    way(14, "log-lost", |rng, fields| {
+        let agent = rng.range(1, agents(&fields) as usize) as u8;
+        let fields = without_agent(&fields, agent);
+        if !fields.iter().any(|f| is_event(f) && reads(f.value[1])) {
+            return None;
+        }
+        at_the_end(fields)
+    }),
+    way(14, "events-of-another", |rng, mut fields| {
+        let agents = agents(&fields) as usize;
+        if agents == 1 {
+            return None;
+        }
+        let (from, to) = (rng.range(1, agents) as u8, rng.range(1, agents) as u8);
+        if from == to {
+            return None;
+        }
+        fields.retain(|f| f.tag != 4);
+        for f in fields.iter_mut().filter(|f| is_event(f) && f.value[0] == from) {
+            f.value[0] = to;
+        }
+        at_the_end(fields)
+    }),
+    way(10, "no-reads-and-an-agent-missing", |rng, mut fields| {
+        fields.retain(|f| f.tag == 1 || is_event(f) && !reads(f.value[1]));
+        fields[0].value[1] = rng.range(agents(&fields) as usize, 8) as u8;
+        at_the_end(fields)
     }),
 ];
 

@@ -186,6 +186,15 @@ fn template(rng: &mut Rng, max: usize) -> Option<(String, Plans)> {
             insert(&mut plans, i, e);
         }
     }
+    // agents with nothing but a marker, as far as there is room
+    if rng.percent(30) {
+        for agent in 1..=plans.agents {
+            if plans.events.len() < max && plans.events.iter().all(|e| e.agent != agent) {
+                let i = rng.range(0, plans.events.len());
+                insert(&mut plans, i, Plan { agent, kind: MARKER, mode: SC, start: 0, width: 0, from: vec![] });
+            }
+        }
+    }
     Some((name.to_string(), plans))
 }
 
@@ -287,9 +296,21 @@ fn replayed(rng: &mut Rng, n: usize) -> (String, Plans) {
     (name.to_string(), plans)
 }
 
+/// The agents that have events, numbered from 1 on as they rise, so that the head promises no other; how many they are.
+fn renumbered(events: &mut [Plan]) -> u8 {
+    let mut used: Vec<u8> = events.iter().map(|e| e.agent).collect();
+    used.sort();
+    used.dedup();
+    for e in events {
+        e.agent = 1 + used.iter().position(|&a| a == e.agent).unwrap() as u8;
+    }
+    used.len() as u8
+}
+
 /// Inits, data, rows and pairs for the planned events; nothing where a read byte has no writer or nothing reads.
 fn finish(rng: &mut Rng, plans: Plans) -> Option<Vec<Field>> {
-    let Plans { events, pairs, size, agents } = plans;
+    let Plans { mut events, pairs, size, .. } = plans;
+    let agents = renumbered(&mut events);
     if !events.iter().any(|e| reads(e.kind)) {
         return None;
     }

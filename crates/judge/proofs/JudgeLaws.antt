@@ -1,6 +1,6 @@
 -- The laws of the judge's first steps: refusals, and buffers that are too short. Assumes nothing.
 --     refused-sheet, short-scratch, short-order     refusals
---     Admits s x at need scratch order              the sheet is refused by none of 1 to 13, and needs so much scratch
+--     Admits s x at need scratch order              the sheet is refused by none of 1 to 14, and needs so much scratch
 --     inits-fit, admits                             what the buffers are held against; what is weighed
 use mathlib.Core.Path.{_≡_, refl, ap, _∙_}
 use mathlib.Core.List.{List}

@@ -63,7 +63,7 @@ pub record Result (s scratch order : List ℕ) : Type 0 where
   pub order′ : List ℕ
   pub judged : Judged s scratch order answer scratch′ order′
 
--- 01's whole table: 1 to 11 are the sheet's own; "12 scratch too short: 0", "13 order buffer shorter than the number of events: 0"
+-- 01's whole table: 1 to 11, and 02's 14, are the sheet's own; "12 scratch too short: 0", "13 order buffer shorter than the number of events: 0"
 pub data Refuses (s : List ℕ) (room places : ℕ) : ℕ → ℕ → Type 0 where
   by-sheet : {n p : ℕ} → Refusal s n p → Refuses s room places n p
   short-scratch : (x : Execution) → WellSheet s x → room < needed x → Refuses s room places 12 0

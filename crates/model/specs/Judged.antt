@@ -1,7 +1,7 @@
 -- What the judge answers and leaves in both buffers, for all bytes (01, "What comes back", and the refusals 12 and 13). Laws:
 -- proofs/JudgedLaws.antt.
 --     needed x                       the bytes of scratch that x needs
---     admitted s room places         the refusal by 1 to 13, or the execution to be judged; room and places are the lengths of the buffers
+--     admitted s room places         the refusal by 1 to 14, or the execution to be judged; room and places are the lengths of the buffers
 --     Breaks x hb f                  f is the rule first broken, 26 among them, with its names
 --     settledOf                      orderly, or the lowest unsettled pair
 --     Judged s scratch order answer scratch′ order′     by cases: JudgedRefused, JudgedBroken, JudgedConsistent
@@ -33,7 +33,7 @@ use Rattle.model.specs.Unsettled.{unsettledPair}
 abbrev pub needed : Execution → ℕ
 needed x = bytesFor (others (x .events))
 
--- 01: "12 scratch too short", then "13 order buffer shorter than the number of events", both at place 0, after 1 to 11 and before the rules
+-- 01: "12 scratch too short", then "13 order buffer shorter than the number of events", both at place 0, after 1 to 11 and 14 and before the rules
 unfoldable pub lent : ℕ → ℕ → Parsed → Parsed
 lent room places (refused n p) = refused n p
 lent room places (whole x) = cond (ltb room (needed x)) (refused 12 0) (cond (ltb places (length (x .events))) (refused 13 0) (whole x))

@@ -1,7 +1,7 @@
 //! The second program: a judge of sheets written from document 01 (and the readings noted beside it) and from nothing
 //! else, by the plainest method. Speed is no aim; each loop stands beside the sentence it follows.
 //!
-//! - [`sheet`]: the format and refusals 1 to 11.
+//! - [`sheet`]: the format and refusals 1 to 11 and 14.
 //! - [`judge`]: refusals 12 and 13, relations, rules 21 to 26, the first order, the unsettled pair.
 //! - [`answer`]: the report line, the 64-bit word, and what both buffers hold afterwards.
 //! - [`text`]: a sheet as text for people, and back.

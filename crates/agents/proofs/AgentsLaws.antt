@@ -1,96 +1,95 @@
--- An agent's events, looked for one after the other, and the agents that have none. Assumes nothing.
---     from-found, from-more, from-none     the search for an event of agent a from the i-th on, which has come to e
---     found-there, found-all               what it finds behind a hint is there; from the first on it finds what there is
---     missing-found, missing-more, missing-none     the search for an agent without an event, which has come to agent i + 1
+-- Which agents have an event, noted one event after the other, and the agents that have none. Assumes nothing.
+--     present-none, present-more, present-all       of no event; of one more; of all that were counted
+--     one-lost, none-lost                           an agent that has no event; each has one
+--     up-more                                       what holds below i, and of i
 use Prim.Native.Nat.{ℕ, _+_, _≤_, _<_, min}
-use mathlib.Core.Path.{_≡_, refl, sym, ap, _∙_}
-use mathlib.Core.List.{List}
+use mathlib.Core.Path.{_≡_, refl, sym, ap, _∙_, subst}
+use mathlib.Core.Logic.{_⊎_, inl, inr}
+use mathlib.Core.List.{List, [], _∷_, _++_, map, map-append}
 use mathlib.Core.Bool.{Bool, true, false}
 use native.Mathlib.Omega.{arith}
-use borrow.Author.Tests.{lt-ltb, le-ltb}
-use lib.Dec.{eqb, ltb}
-use lib.ListN.{length, getD, drop, drop-of-length-le}
+use native.Mathlib.Nat.{eq-or-lt-of-le}
+use native.Mathlib.Numerals.{add-one}
+use borrow.Author.Tests.{eqb-true, eqb-false, eq-eqb}
+use lib.Dec.{T, eqb}
+use lib.ListN.{length, getD, set, take, replicate, length-set, length-replicate, getD-replicate}
+use lib.Seq.{take-suc, getD-set-same, getD-set-other}
 use Rattle.basis.specs.Test.{_or_, non, any, from}
-use Rattle.basis.proofs.BoolLaws.{or-holds, or-fails, non-holds, non-fails}
+use Rattle.basis.proofs.BoolLaws.{false-T, or-second, or-none, non-holds, non-fails}
 use Rattle.basis.proofs.ListLaws.{from-length, from-at}
-use Rattle.basis.proofs.LoopLaws.{any-step, any-drop, any-none, any-found, any-more}
-use Rattle.format.specs.Event.{Event, nobody}
-use Rattle.format.specs.Execution.{Execution, eventNo}
+use Rattle.basis.proofs.LoopLaws.{any-snoc, any-at, none-intro}
+use Rattle.format.specs.Event.{Event}
+use Rattle.format.specs.Execution.{Execution}
 use Rattle.format.specs.Field.{restAt}
 use Rattle.format.specs.Layout.{agentOf}
 use Rattle.parse.specs.Parse.{appears, missing}
-use Rattle.entries.specs.declared.Counts.{Counts}
-use Rattle.entries.specs.Entries.{eventsOn, eventsIn, execution}
-use Rattle.entries.proofs.EntriesLaws.{events-count, events-capped, agent-at}
+use Rattle.entries.specs.Entries.{eventAt, eventsOn}
+use Rattle.entries.proofs.EntriesLaws.{events-capped}
+use Rattle.agents.specs.steps.Present.{numbers, Present}
 
--- the event is agent a's
-abbrev pub isOf : ℕ → Event → Bool
-isOf a d = eqb (d .agent) a
+-- ---- which agents have an event
 
--- some event from the i-th of n on is agent a's
-abbrev pub later : List ℕ → ℕ → ℕ → List ℕ → ℕ → ℕ → Bool
-later s ed n at a i = any (isOf a) (drop i (eventsOn s ed n at))
-
-module _ (s : List ℕ) (ed n : ℕ) (at : List ℕ) (b : n ≤ length at) (a : ℕ) where
-  step : (e : ℕ) → e < n → later s ed n at a e ≡ (eqb (agentOf (restAt s (getD at e 0))) a or later s ed n at a (e + 1))
-  unfolding eventNo
-  step e h =
-      any-step (isOf a) (eventsOn s ed n at) e nobody (rw (events-count s ed n at b) h)
-      ∙ ap (λ (k : ℕ). eqb k a or later s ed n at a (e + 1)) (agent-at s ed n at e h b)
-
-  here : (e : ℕ) → e < n → eqb (agentOf (restAt s (getD at e 0))) a ≡ true → later s ed n at a e ≡ true
-  here e h y = step e h ∙ or-holds _ _ y
-
-  pub from-more : (e : ℕ) → e < n → eqb (agentOf (restAt s (getD at e 0))) a ≡ false → later s ed n at a e ≡ later s ed n at a (e + 1)
-  from-more e h y = step e h ∙ or-fails _ _ y
-
-  over : (e : ℕ) → n ≤ e → later s ed n at a e ≡ false
-  unfolding any
-  over e h = rw (drop-of-length-le (eventsOn s ed n at) {i = e} (rw (events-count s ed n at b) h))
-
-  -- of the m events that were counted, n have a place
-  module _ (m i : ℕ) (c : n ≡ min m (length at)) where
-    counted : later s ed m at a i ≡ later s ed n at a i
-    counted = ap (λ (l : List Event). any (isOf a) (drop i l)) (events-capped s ed m at ∙ ap (λ (k : ℕ). eventsOn s ed k at) (sym c))
-
-    pub from-found : (e : ℕ) → later s ed n at a i ≡ later s ed n at a e → e < n → eqb (agentOf (restAt s (getD at e 0))) a ≡ true
-        → ltb e (min m (length at)) ≡ later s ed m at a i
-    from-found e inv h y = lt-ltb e (min m (length at)) (rw c at h) ∙ sym (counted ∙ inv ∙ here e h y)
-
-    pub from-none : (e : ℕ) → later s ed n at a i ≡ later s ed n at a e → n ≤ e → ltb n (min m (length at)) ≡ later s ed m at a i
-    from-none e inv h = le-ltb n (min m (length at)) (omega arith) ∙ sym (counted ∙ inv ∙ over e h)
-
--- what is found behind a hint is there; from the first on all is looked at
-pub found-there : (l : List Event) (a i r n : ℕ) → ltb r n ≡ any (isOf a) (drop i l) → r < n → ltb r n ≡ appears l a
+-- one event more
+noted : (l : List Event) (d : Event) (seen : List ℕ) → d .agent < numbers → Present l seen → Present (l ++ (d ∷ [])) (set seen (d .agent) 1)
 unfolding appears
-found-there l a i r n e h = let t = lt-ltb r n h in t ∙ sym (any-drop (isOf a) i l (sym e ∙ t))
+noted l d seen b p =
+    record {
+      size = length-set seen (d .agent) 1 ∙ p .size;
+      tells = λ a h. go a h (eqb (d .agent) a) refl ∙ sym (any-snoc (λ (f : Event). eqb (f .agent) a) l d);
+    }
+  where
+    go : (a : ℕ) → a < numbers → (c : Bool) → eqb (d .agent) a ≡ c → eqb (getD (set seen (d .agent) 1) a 0) 1 ≡ (any (λ (f : Event). eqb (f .agent) a) l or eqb (d .agent) a)
+    go a h true e =
+        let q : d .agent ≡ a = eqb-true _ _ e in
+        let z = p .size in
+        let r : getD (set seen (d .agent) 1) a 0 ≡ 1 = subst (λ (k : ℕ). getD (set seen (d .agent) 1) k 0 ≡ 1) q (getD-set-same seen (d .agent) 1 0 (omega arith)) in
+        eq-eqb _ _ r ∙ sym (or-second _ _ e)
+    go a h false e =
+        let q : a ≡ d .agent → ⊥ = λ (t : a ≡ d .agent). eqb-false _ _ e (sym t) in
+        rw (getD-set-other seen (d .agent) a 1 0 q) (p .tells a h ∙ sym (or-none _) ∙ ap (λ (c : Bool). any (λ (f : Event). eqb (f .agent) a) l or c) (sym e))
 
-pub found-all : (l : List Event) (a r n : ℕ) → ltb r n ≡ any (isOf a) (drop 0 l) → ltb r n ≡ appears l a
-unfolding appears
-found-all l a r n e = e
+module _ (s : List ℕ) (ed : ℕ) (at : List ℕ) where
+  pub present-none : Present (eventsOn s ed 0 at) (replicate numbers 0)
+  unfolding eventsOn appears any
+  present-none = record { size = length-replicate {A = ℕ} numbers 0; tells = λ a h. rw (getD-replicate {A = ℕ} numbers a 0 0 h) refl }
+
+  pub present-more : (e : ℕ) (seen : List ℕ) → e < length at → agentOf (restAt s (getD at e 0)) < numbers → Present (eventsOn s ed e at) seen
+      → Present (eventsOn s ed (e + 1) at) (set seen (agentOf (restAt s (getD at e 0))) 1)
+  unfolding eventsOn
+  present-more e seen h b p =
+      let m : take (e + 1) at ≡ take e at ++ (getD at e 0 ∷ []) = rw add-one (take-suc at e 0 h) in
+      let l : map (eventAt s ed) (take (e + 1) at) ≡ map (eventAt s ed) (take e at) ++ (eventAt s ed (getD at e 0) ∷ []) =
+      ap (map (eventAt s ed)) m ∙ map-append (eventAt s ed) (take e at) (getD at e 0 ∷ []) in
+      subst (λ (k : List Event). Present k (set seen (agentOf (restAt s (getD at e 0))) 1)) (sym l) (noted (map (eventAt s ed) (take e at)) (eventAt s ed (getD at e 0)) seen b p)
+
+  -- of the m events that were counted those that have a place
+  pub present-all : (m n : ℕ) (seen : List ℕ) → n ≡ min m (length at) → Present (eventsOn s ed n at) seen → Present (eventsOn s ed m at) seen
+  present-all m n seen c p = subst (λ (l : List Event). Present l seen) (sym (events-capped s ed m at ∙ ap (λ (k : ℕ). eventsOn s ed k at) (sym c))) p
 
 -- ---- the agents
 
-abbrev pub lost : Execution → ℕ → Bool
-lost x a = non (appears (x .events) a)
+module _ (x : Execution) where
+  abbrev lost : ℕ → Bool
+  lost a = non (appears (x .events) a)
 
--- none of the first i agents is missing
-abbrev pub Up : Execution → ℕ → Type 0
-Up x i = any (lost x) (from 1 (x .head .agents)) ≡ any (lost x) (drop i (from 1 (x .head .agents)))
+  number : (i : ℕ) → i < x .head .agents → getD (from 1 (x .head .agents)) i 0 ≡ i + 1
+  number i h = from-at 1 (x .head .agents) i 0 h ∙ omega arith
 
-module _ (x : Execution) (i : ℕ) (u : Up x i) where
-  number : i < x .head .agents → getD (from 1 (x .head .agents)) i 0 ≡ i + 1
-  number h = from-at 1 (x .head .agents) i 0 h ∙ omega arith
-
-  pub missing-found : i < x .head .agents → appears (x .events) (i + 1) ≡ false → true ≡ missing x
+  pub one-lost : (i : ℕ) → i < x .head .agents → appears (x .events) (i + 1) ≡ false → true ≡ missing x
   unfolding missing
-  missing-found h y =
-      any-found (lost x) (from 1 (x .head .agents)) i 0 u (rw (from-length 1 (x .head .agents)) h) (ap (lost x) (number h) ∙ non-holds _ y)
+  one-lost i h y = sym (any-at lost (from 1 (x .head .agents)) i 0 (rw (from-length 1 (x .head .agents)) h) (ap lost (number i h) ∙ non-holds _ y))
 
-  pub missing-more : i < x .head .agents → appears (x .events) (i + 1) ≡ true → Up x (i + 1)
-  missing-more h y =
-      any-more (lost x) (from 1 (x .head .agents)) i 0 u (rw (from-length 1 (x .head .agents)) h) (ap (lost x) (number h) ∙ non-fails _ y)
-
-  pub missing-none : x .head .agents ≤ i → false ≡ missing x
+  pub none-lost : ((i : ℕ) → i < x .head .agents → appears (x .events) (i + 1) ≡ true) → false ≡ missing x
   unfolding missing
-  missing-none h = any-none (lost x) (from 1 (x .head .agents)) i u (rw (from-length 1 (x .head .agents)) h)
+  none-lost f = sym (none-intro lost 0 (from 1 (x .head .agents)) there)
+    where
+      there : (i : ℕ) → i < length (from 1 (x .head .agents)) → T (lost (getD (from 1 (x .head .agents)) i 0)) → ⊥
+      there i h t = let k : i < x .head .agents = rw (from-length 1 (x .head .agents)) at h in false-T _ (ap lost (number i k) ∙ non-fails _ (f i k)) t
+
+-- what holds below i, and of i, holds below i + 1
+pub up-more : {P : ℕ → Type 0} {i : ℕ} → ((j : ℕ) → j < i → P j) → P i → (j : ℕ) → j < i + 1 → P j
+up-more {P} {i} f y j h = let b : j ≤ i = omega arith in go (eq-or-lt-of-le b)
+  where
+    go : (j ≡ i) ⊎ (j < i) → P j
+    go (inl e) = subst P (sym e) y
+    go (inr l) = f j l

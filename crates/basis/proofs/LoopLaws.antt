@@ -1,7 +1,6 @@
 -- Whether some entry of a list passes a test, whether all do, and how many (specs/Test.antt). Assumes nothing.
 --     any-elim, any-intro, any-at, none-intro     one that passes is enough; none passes
 --     any-none, any-found, any-more               where a loop has come to index i: no entry is left; entry i passes; it does not, and the loop goes on
---     any-step, any-drop                          from index i on: entry i, or one behind it; one from there on is one
 --     any-same, any-each, any-one, any-snoc, any-next     two tests that agree on the list; a mapped list; one entry, one more; one number more
 --     all-intro, all-number                       every entry passes: exactly when as many as there are
 --     number-le, number-both, number-snoc, number-append     at most all; a test and its opposite; one entry more; two lists
@@ -19,7 +18,7 @@ use lib.ListN.{length, getD, drop, drop-of-length-le}
 use lib.Seq.{drop-cons}
 use borrow.Author.Tests.{ne-eqb}
 use Rattle.basis.specs.Test.{_and_, _or_, non, any, all, number, each, from}
-use Rattle.basis.proofs.BoolLaws.{true-T, T-true, T-false, or-cases, or-left, or-right, or-none, or-second, or-assoc, both-hold}
+use Rattle.basis.proofs.BoolLaws.{true-T, T-true, T-false, or-cases, or-left, or-right, or-none, or-assoc, both-hold}
 use Rattle.basis.proofs.ListLaws.{from-next}
 
 module _ {A : Type 0} where
@@ -38,7 +37,7 @@ module _ {A : Type 0} where
   any-intro f l a (List·Memᴰ·tail {x = b} {xs = k} m) t = or-right (f b) (any f k) (any-intro f k a m t)
 
 module _ {A : Type 0} (p : A → Bool) (l : List A) where
-  pub any-step : (i : ℕ) (d : A) → i < length l → any p (drop i l) ≡ (p (getD l i d) or any p (drop (i + 1) l))
+  any-step : (i : ℕ) (d : A) → i < length l → any p (drop i l) ≡ (p (getD l i d) or any p (drop (i + 1) l))
   unfolding any
   any-step i d h = rw (add-one, drop-cons l i d)
 
@@ -55,13 +54,6 @@ module _ {A : Type 0} (p : A → Bool) (l : List A) where
   any-more i d e h y = e ∙ any-step i d h ∙ ap (λ (b : Bool). b or any p (drop (i + 1) l)) y
 
 module _ {A : Type 0} (p : A → Bool) where
-  -- one behind the first i is one
-  pub any-drop : (i : ℕ) (l : List A) → any p (drop i l) ≡ true → any p l ≡ true
-  unfolding any
-  any-drop zero l t = t
-  any-drop (suc i) [] t = t
-  any-drop (suc i) (a ∷ l) t = or-second (p a) (any p l) (any-drop i l t)
-
   -- one that passes is enough, wherever it stands
   pub any-at : (l : List A) (i : ℕ) (d : A) → i < length l → p (getD l i d) ≡ true → any p l ≡ true
   unfolding any _or_

@@ -1,14 +1,11 @@
 -- Which agents have an event, noted one event after the other, and the agents that have none. Assumes nothing.
 --     present-none, present-more, present-all       of no event; of one more; of all that were counted
 --     one-lost, none-lost                           an agent that has no event; each has one
---     up-more                                       what holds below i, and of i
 use Prim.Native.Nat.{ℕ, _+_, _≤_, _<_, min}
 use mathlib.Core.Path.{_≡_, refl, sym, ap, _∙_, subst}
-use mathlib.Core.Logic.{_⊎_, inl, inr}
 use mathlib.Core.List.{List, [], _∷_, _++_, map, map-append}
 use mathlib.Core.Bool.{Bool, true, false}
 use native.Mathlib.Omega.{arith}
-use native.Mathlib.Nat.{eq-or-lt-of-le}
 use native.Mathlib.Numerals.{add-one}
 use borrow.Author.Tests.{eqb-true, eqb-false, eq-eqb}
 use lib.Dec.{T, eqb}
@@ -25,12 +22,12 @@ use Rattle.format.specs.Layout.{agentOf}
 use Rattle.parse.specs.Parse.{appears, missing}
 use Rattle.entries.specs.Entries.{eventAt, eventsOn}
 use Rattle.entries.proofs.EntriesLaws.{events-capped}
-use Rattle.agents.specs.steps.Present.{numbers, Present}
+use Rattle.agents.specs.steps.Present.{agentNumbers, Present}
 
 -- ---- which agents have an event
 
 -- one event more
-noted : (l : List Event) (d : Event) (seen : List ℕ) → d .agent < numbers → Present l seen → Present (l ++ (d ∷ [])) (set seen (d .agent) 1)
+noted : (l : List Event) (d : Event) (seen : List ℕ) → d .agent < agentNumbers → Present l seen → Present (l ++ (d ∷ [])) (set seen (d .agent) 1)
 unfolding appears
 noted l d seen b p =
     record {
@@ -38,7 +35,7 @@ noted l d seen b p =
       tells = λ a h. go a h (eqb (d .agent) a) refl ∙ sym (any-snoc (λ (f : Event). eqb (f .agent) a) l d);
     }
   where
-    go : (a : ℕ) → a < numbers → (c : Bool) → eqb (d .agent) a ≡ c → eqb (getD (set seen (d .agent) 1) a 0) 1 ≡ (any (λ (f : Event). eqb (f .agent) a) l or eqb (d .agent) a)
+    go : (a : ℕ) → a < agentNumbers → (c : Bool) → eqb (d .agent) a ≡ c → eqb (getD (set seen (d .agent) 1) a 0) 1 ≡ (any (λ (f : Event). eqb (f .agent) a) l or eqb (d .agent) a)
     go a h true e =
         let q : d .agent ≡ a = eqb-true _ _ e in
         let z = p .size in
@@ -49,11 +46,11 @@ noted l d seen b p =
         rw (getD-set-other seen (d .agent) a 1 0 q) (p .tells a h ∙ sym (or-none _) ∙ ap (λ (c : Bool). any (λ (f : Event). eqb (f .agent) a) l or c) (sym e))
 
 module _ (s : List ℕ) (ed : ℕ) (at : List ℕ) where
-  pub present-none : Present (eventsOn s ed 0 at) (replicate numbers 0)
+  pub present-none : Present (eventsOn s ed 0 at) (replicate agentNumbers 0)
   unfolding eventsOn appears any
-  present-none = record { size = length-replicate {A = ℕ} numbers 0; tells = λ a h. rw (getD-replicate {A = ℕ} numbers a 0 0 h) refl }
+  present-none = record { size = length-replicate {A = ℕ} agentNumbers 0; tells = λ a h. rw (getD-replicate {A = ℕ} agentNumbers a 0 0 h) refl }
 
-  pub present-more : (e : ℕ) (seen : List ℕ) → e < length at → agentOf (restAt s (getD at e 0)) < numbers → Present (eventsOn s ed e at) seen
+  pub present-more : (e : ℕ) (seen : List ℕ) → e < length at → agentOf (restAt s (getD at e 0)) < agentNumbers → Present (eventsOn s ed e at) seen
       → Present (eventsOn s ed (e + 1) at) (set seen (agentOf (restAt s (getD at e 0))) 1)
   unfolding eventsOn
   present-more e seen h b p =
@@ -85,11 +82,3 @@ module _ (x : Execution) where
     where
       there : (i : ℕ) → i < length (from 1 (x .head .agents)) → T (lost (getD (from 1 (x .head .agents)) i 0)) → ⊥
       there i h t = let k : i < x .head .agents = rw (from-length 1 (x .head .agents)) at h in false-T _ (ap lost (number i k) ∙ non-fails _ (f i k)) t
-
--- what holds below i, and of i, holds below i + 1
-pub up-more : {P : ℕ → Type 0} {i : ℕ} → ((j : ℕ) → j < i → P j) → P i → (j : ℕ) → j < i + 1 → P j
-up-more {P} {i} f y j h = let b : j ≤ i = omega arith in go (eq-or-lt-of-le b)
-  where
-    go : (j ≡ i) ⊎ (j < i) → P j
-    go (inl e) = subst P (sym e) y
-    go (inr l) = f j l

@@ -3,6 +3,7 @@
 --     part-front                    a part of a list's front
 --     front-at, front-past, front-length     a mapped front of a list
 --     from-length, from-at, from-mem, from-elim, from-next     the numbers from a start on; one more
+--     up-more                       what holds below a number, and of it
 --     last-at, snoc-split, each-snoc, two-snoc     a list with one entry more
 --     mem-getD, getD-mem            an entry of a list and its place
 --     each-elim, each-mem, each-id  an entry of a mapped list; mapped by the identity
@@ -86,6 +87,14 @@ pub zeros-at : (n : ℕ) (l : List ℕ) (i : ℕ) → i < n → getD (replicate 
 zeros-at zero l i h = absurd (omega arith)
 zeros-at (suc n) l zero h = refl
 zeros-at (suc n) l (suc i) h = zeros-at n l i (omega arith)
+
+-- what holds below i, and of i, holds below i + 1
+pub up-more : {P : ℕ → Type 0} {i : ℕ} → ((j : ℕ) → j < i → P j) → P i → (j : ℕ) → j < i + 1 → P j
+up-more {P} {i} f y j h = let b : j ≤ i = omega arith in go (eq-or-lt-of-le b)
+  where
+    go : (j ≡ i) ⊎ (j < i) → P j
+    go (inl e) = subst P (sym e) y
+    go (inr l) = f j l
 
 -- ---- a list with one entry more
 

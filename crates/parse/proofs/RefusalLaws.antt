@@ -10,14 +10,14 @@ use mathlib.Core.Bool.{Bool, true, false}
 use mathlib.Core.List.{List, [], _∷_, _++_}
 use Prim.Native.Nat.{ℕ, zero, suc, _+_, _-_, _<_, _≤_}
 use native.Mathlib.Omega.{arith}
-use native.Mathlib.Nat.{eq-or-lt-of-le, le-of-eq, le-of-suc-le-suc}
+use native.Mathlib.Nat.{eq-or-lt-of-le, le-of-eq}
 use native.Mathlib.Decide.{decLt}
 use borrow.Author.Tests.{ltb-true, ltb-false, eqb-true, eqb-false, ne-eqb}
 use lib.Dec.{T, eqb, ltb}
 use lib.ListN.{length, getD, length-append, List·getD-eq-default, List·getD-append}
 use Rattle.basis.specs.Test.{any}
 use Rattle.basis.proofs.BoolLaws.{true-T, false-T}
-use Rattle.basis.proofs.ListLaws.{snoc-split, last-at, each-snoc, mem-getD, getD-mem}
+use Rattle.basis.proofs.ListLaws.{up-more, snoc-split, last-at, each-snoc, mem-getD, getD-mem}
 use Rattle.basis.proofs.LoopLaws.{any-elim, any-intro}
 use Rattle.format.specs.Limits.{maxBytes}
 use Rattle.format.specs.Layout.{accessOf, eventOf}
@@ -250,11 +250,7 @@ module _ (s : List ℕ) (n p : ℕ) (short : length s ≤ maxBytes) where
       st = stateNo s k
 
       still : faultAt s q st ≡ 0 → (j : ℕ) → j < suc k → faultNo s j ≡ 0
-      still t j h = go (eq-or-lt-of-le (le-of-suc-le-suc h))
-        where
-          go : (j ≡ k) ⊎ (j < k) → faultNo s j ≡ 0
-          go (inl a) = ap (faultNo s) a ∙ t
-          go (inr a) = clean j a
+      still t j h = up-more {P = λ (i : ℕ). faultNo s i ≡ 0} clean t j (omega arith)
 
       turn : (c : Bool) → ltb q (length s) ≡ c → (m : ℕ) → faultAt s q st ≡ m → Refusal s n p
       turn false r m t =

@@ -8,7 +8,7 @@ use mathlib.Core.Logic.{_⊎_, ⊎-elim}
 use mathlib.Core.List.{List, [], _∷_, _++_, map, map-append}
 use mathlib.Core.Bool.{Bool, true, false, cond}
 use native.Mathlib.Omega.{arith}
-use native.Mathlib.Nat.{add-mul, one-mul, eq-or-lt-of-le}
+use native.Mathlib.Nat.{add-mul, one-mul, eq-or-lt-of-le, le-mul-of-pos-right}
 use native.Mathlib.Numerals.{add-one}
 use lib.Dec.{eqb}
 use lib.ListN.{length, getD, take, drop, set, replicate, length-set}
@@ -23,7 +23,7 @@ use Rattle.format.specs.Limits.{maxBytes, maxInits, maxOthers}
 use Rattle.format.specs.Event.{Event, isInit}
 use Rattle.format.specs.Execution.{inits, others}
 use Rattle.format.specs.Field.{tagAt, nextAt, valueAt, fieldPlace}
-use Rattle.format.specs.Layout.{editionOf, headOf, agentOf, eventOf, rowBytes, rowGap, pairGap}
+use Rattle.format.specs.Layout.{editionOf, headOf, agentOf, eventOf, rowGap, pairGap}
 use Rattle.content.specs.Content.{roomFor}
 use Rattle.content.proofs.ContentLaws.{room-init, room-other}
 use Rattle.parse.specs.Parse.{State, refused, placeOf, faultAt, taken, after, fieldsFrom, parse}
@@ -211,10 +211,10 @@ module _ (s : List ℕ) (p last : ℕ) (x : Counts) (at : List ℕ) (r : Ready s
       }
 
   pub row-few : tagAt s p ≡ 3 → x .rows < maxBytes
-  unfolding rowBytes
   row-few e =
       let w = was-3 s p st (r .clean) e in
-      let o : x .«rows_at» + x .rows * 6 ≡ p = b .rows-end (omega arith) in
+      let o = b .rows-end (omega arith) in
+      let d : x .rows ≤ x .rows * rowGap (x .head .edition) = le-mul-of-pos-right (x .rows) (omega arith) in
       let n = ready-next in
       omega arith
 

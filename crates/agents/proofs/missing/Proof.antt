@@ -8,7 +8,8 @@ use borrow.Author.Tests.{not-true, not-false}
 use lib.Dec.{eqb}
 use lib.ListN.{getD}
 use Rattle.entries.specs.Entries.{execution}
-use Rattle.agents.proofs.AgentsLaws.{one-lost, none-lost, up-more}
+use Rattle.basis.proofs.ListLaws.{up-more}
+use Rattle.agents.proofs.AgentsLaws.{one-lost, none-lost}
 use borrow.Author.Needs.{needs}
 use Rattle.agents.proofs.missing.Statement.{statement}
 use Rattle.agents.proofs.missing.Tie as tie

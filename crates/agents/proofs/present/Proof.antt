@@ -7,14 +7,14 @@ use denote.Ref.{now}
 use native.Mathlib.Omega.{arith}
 use lib.ListN.{length, set}
 use Rattle.entries.specs.Entries.{eventsOn}
-use Rattle.agents.specs.steps.Present.{numbers, Present}
+use Rattle.agents.specs.steps.Present.{agentNumbers, Present}
 use Rattle.agents.proofs.AgentsLaws.{present-none, present-more, present-all}
 use borrow.Author.Needs.{needs}
 use Rattle.agents.proofs.present.Statement.{statement}
 use Rattle.agents.proofs.present.Tie as tie
 
 abbrev Inv-loop : tie.InvT-loop
-Inv-loop s at seen₀ n e₀ seen e = (e ≤ n) × (n ≤ length at) × (length seen ≡ numbers) × ((ed : ℕ) → Present (eventsOn s ed e at) seen)
+Inv-loop s at seen₀ n e₀ seen e = (e ≤ n) × (n ≤ length at) × (length seen ≡ agentNumbers) × ((ed : ℕ) → Present (eventsOn s ed e at) seen)
 
 abbrev μ-loop : tie.MeasureT-loop
 μ-loop s at seen₀ n e₀ seen e = n - e
@@ -55,7 +55,7 @@ loop-less c = omega arith
 loop-again : tie.Need-loop-again Inv-loop μ-loop
 loop-again c =
     let b = c .before .before .before .loop .inv .1 in
-    let g : c .agent-at .result < numbers = omega arith in
+    let g : c .agent-at .result < agentNumbers = omega arith in
     let more : (ed : ℕ) → Present (eventsOn (now (c .before .before .before .before .before .before .before .before .args .s)) ed (c .before .before .before .loop .e + 1) (now (c .before .before .before .before .before .before .before .before .args .at))) (set (c .before .before .before .loop .seen) (c .agent-at .result) 1) =
     λ ed. subst (λ (k : ℕ). Present (eventsOn (now (c .before .before .before .before .before .before .before .before .args .s)) ed (c .before .before .before .loop .e + 1) (now (c .before .before .before .before .before .before .before .before .args .at))) (set (c .before .before .before .loop .seen) k 1)) (sym (c .agent-at .ensures))
     (present-more (now (c .before .before .before .before .before .before .before .before .args .s)) ed (now (c .before .before .before .before .before .before .before .before .args .at)) (c .before .before .before .loop .e) (c .before .before .before .loop .seen) (omega arith) (rw (c .agent-at .ensures) at g) (c .before .before .before .loop .inv .3 ed)) in

@@ -587,13 +587,11 @@ pub const WAYS: &[Way] = &[
                 f.value[1] = WRITE;
             }
         }
-        let sheet = bytes(&fields);
-        let length = sheet.len();
-        Some((sheet, length))
+        at_the_end(fields)
     }),
     way(10, "head-alone", |_, mut fields| {
         fields.truncate(1);
-        Some((bytes(&fields), 6))
+        at_the_end(fields)
     }),
     way(11, "row-missing", |rng, mut fields| {
         let i = one(rng, &fields, is_row)?;

@@ -2,11 +2,13 @@
 --     part-short, part-none         a part that is cut off by the list's end
 --     part-front                    a part of a list's front
 --     front-at, front-past, front-length     a mapped front of a list
---     from-length, from-at, from-mem, from-elim, from-next     the numbers from a start on; one more
+--     from-length, from-at, from-mem, from-elim, from-next, from-more     the numbers from a start on; one more
 --     up-more                       what holds below a number, and of it
 --     last-at, snoc-split, each-snoc, two-snoc     a list with one entry more
 --     mem-getD, getD-mem            an entry of a list and its place
 --     each-elim, each-mem, each-id  an entry of a mapped list; mapped by the identity
+--     each-length, each-more        its length; with one entry more
+--     entry-split                   a list as what stands before an entry, the entry, and what stands behind it
 --     each-at, each-past, zeros-at  an entry of mapped numbers, by its place; of a row of zeros
 --     across-left, across-mem       a pair of two lists' entries
 use mathlib.Core.Path.{_≡_, refl, sym, ap, _∙_, subst}
@@ -14,6 +16,7 @@ use mathlib.Core.Logic.{_⊎_, inl, inr, ⊎-elim}
 use mathlib.Core.List.{List, [], _∷_, _++_, map, List·Memᴰ, List·Memᴰ·head, List·Memᴰ·tail, List·Memᴰ·not-nil, List·Memᴰ·cases-cons, List·Memᴰ·append-cases, Memᴰ·append-left, Memᴰ·append-right}
 use Prim.Native.Nat.{ℕ, zero, suc, _+_, _-_, _≤_, _<_}
 use native.Mathlib.Omega.{arith}
+use native.Mathlib.Numerals.{add-one}
 use lib.ListN.{length, getD, take, drop, replicate, length-drop, length-take, length-map, drop-of-length-le, length-append, List·getD-append, List·getD-eq-default}
 use lib.Seq.{take-all, take-nil, take-take, getD-take, getD-append-seam}
 use native.Mathlib.Nat.{eq-or-lt-of-le}
@@ -83,6 +86,9 @@ from-next s (suc k) =
     let e : suc s + k ≡ s + suc k = omega arith in
     ap (λ (l : List ℕ). s ∷ l) (from-next (suc s) k ∙ ap (λ (i : ℕ). from (suc s) k ++ (i ∷ [])) e)
 
+pub from-more : (n : ℕ) → from 0 (n + 1) ≡ from 0 n ++ (n ∷ [])
+from-more n = rw add-one (from-next 0 n ∙ ap (λ (k : ℕ). from 0 n ++ (k ∷ [])) (omega arith))
+
 pub zeros-at : (n : ℕ) (l : List ℕ) (i : ℕ) → i < n → getD (replicate n 0 ++ l) i 1 ≡ 0
 zeros-at zero l i h = absurd (omega arith)
 zeros-at (suc n) l zero h = refl
@@ -150,6 +156,21 @@ pub each-id : {A : Type 0} (l : List A) → each (λ (a : A). a) l ≡ l
 unfolding each
 each-id [] = refl
 each-id (a ∷ l) = ap (λ (m : List _). a ∷ m) (each-id l)
+
+pub each-length : {A B : Type 0} (f : A → B) (l : List A) → length (each f l) ≡ length l
+unfolding each
+each-length f [] = refl
+each-length f (a ∷ l) = ap suc (each-length f l)
+
+pub each-more : {A B : Type 0} (f : A → B) (l : List A) (a : A) → each f (l ++ (a ∷ [])) ≡ each f l ++ (f a ∷ [])
+unfolding each
+each-more f [] a = refl
+each-more {A} {B} f (b ∷ l) a = ap (λ (m : List B). f b ∷ m) (each-more f l a)
+
+pub entry-split : {A : Type 0} (d : A) (l : List A) (i : ℕ) → i < length l → l ≡ take i l ++ (getD l i d ∷ drop (suc i) l)
+entry-split d [] i h = absurd (omega arith)
+entry-split d (b ∷ l) zero h = refl
+entry-split {A} d (b ∷ l) (suc i) h = ap (λ (m : List A). b ∷ m) (entry-split d l i (omega arith))
 
 module _ {A : Type 0} where
   pub each-at : (f : ℕ → A) (n s i : ℕ) (d : A) → i < n → getD (each f (from s n)) i d ≡ f (s + i)

@@ -1,16 +1,18 @@
 -- The laws of specs/Layout.antt: the bytes that an event's value holds; what the front of a value says. Assumes nothing.
 --     saw-uncovered, saw-none, saw-some     of a byte that the event does not cover, does not read, reads
 --     agent-front, shape-front, event-front, row-front, pair-front     of a value of which nothing is cut off that is looked at
+--     data-whole                            what was seen and then what was written are the data
 --     wrote-uncovered, wrote-none, wrote-write, wrote-both     not covered; not written; by a write; by a read-modify-write
-use mathlib.Core.Path.{_≡_, refl, ap, _∙_}
+use mathlib.Core.Path.{_≡_, refl, sym, ap, _∙_}
 use mathlib.Core.Bool.{Bool, true, false, cond}
-use mathlib.Core.List.{List, [], _∷_}
-use Prim.Native.Nat.{ℕ, _+_, _-_, _<_, _≤_}
+use mathlib.Core.List.{List, [], _∷_, _++_, append-nil}
+use Prim.Native.Nat.{ℕ, zero, suc, _+_, _-_, _<_, _≤_}
 use native.Mathlib.Omega.{arith}
 use borrow.Author.Tests.{ltb-true, leb-true, eqb-true, ne-eqb}
 use lib.Dec.{eqb, ltb, leb}
 use lib.ListN.{getD, take, drop}
-use lib.Seq.{getD-take, getD-drop}
+use lib.Seq.{getD-take, getD-drop, take-add, drop-drop}
+use Rattle.basis.specs.Test.{_or_}
 use Rattle.basis.proofs.BoolLaws.{and-elim, true-T, T-true}
 use Rattle.basis.proofs.ListLaws.{part-front}
 use Rattle.format.specs.declared.Shape.{Shape}
@@ -133,3 +135,22 @@ module _ (edition : ℕ) (v : List ℕ) (n : ℕ) where
 
     pub event-front : eventOf edition (take n v) ≡ eventOf edition v
     event-front = event-path (agent-front first) same seen-front written-front
+
+-- ---- the data
+
+-- by the kind; a marker has none
+by-kind : (k w : ℕ) (d : List ℕ) → 1 ≤ k → k ≤ 4 → (k ≡ 4 → w ≡ 0)
+    → cond (eqb k 1 or eqb k 3) (take w d) [] ++ cond (eqb k 2) (take w d) (cond (eqb k 3) (take w (drop w d)) []) ≡ take (cond (eqb k 3) (w + w) w) d
+unfolding _or_
+by-kind zero w d a b m = absurd (omega arith)
+by-kind (suc zero) w d a b m = append-nil (take w d)
+by-kind (suc (suc zero)) w d a b m = refl
+by-kind (suc (suc (suc zero))) w d a b m = sym (take-add w w d)
+by-kind (suc (suc (suc (suc zero)))) w d a b m = ap (λ (n : ℕ). take n d) (sym (m refl))
+by-kind (suc (suc (suc (suc (suc k))))) w d a b m = absurd (omega arith)
+
+pub data-whole : (edition : ℕ) (v : List ℕ) → 1 ≤ shapeOf edition v .kind → shapeOf edition v .kind ≤ 4 → (shapeOf edition v .kind ≡ 4 → shapeOf edition v .width ≡ 0)
+    → seenOf edition v ++ writtenOf edition v ≡ take (dataBytes (shapeOf edition v)) (drop (eventBytes edition) v)
+unfolding seenOf writtenOf dataBytes reads
+data-whole edition v a b m =
+    rw (← (drop-drop (shapeOf edition v .width) (eventBytes edition) v)) (by-kind (shapeOf edition v .kind) (shapeOf edition v .width) (drop (eventBytes edition) v) a b m)

@@ -1,0 +1,222 @@
+-- The laws of specs/Encode.antt and specs/Table.antt. Assumes nothing.
+--     run-snoc                      one entry more
+--     length-field                  the bytes of a field
+--     field-back                    a short field of a sheet is the field of its tag and value
+--     event-back, event-clean-back, event-short     an event's value without a fault is the value of its description, and is short
+--     event-forth                   a description whose value has no fault is what its value describes
+--     row-back, pair-back, head-back
+--     sheet-split                   the parts of a sheet
+--     encode-head, encode-event, encode-row, encode-pair     the bytes of a table with one field more at its end
+use mathlib.Core.Path.{_≡_, refl, sym, ap, _∙_, subst}
+use mathlib.Core.Logic.{_⊎_, inl, inr}
+use mathlib.Core.Bool.{Bool, true, false, cond}
+use mathlib.Core.List.{List, [], _∷_, _++_, append-assoc, append-nil}
+use Prim.Native.Nat.{ℕ, zero, suc, _+_, _*_, _/_, _%_, _<_, _≤_}
+use native.Mathlib.Omega.{arith}
+use native.Mathlib.Nat.{div-eq-of-lt, mod-eq-of-lt}
+use borrow.Author.Tests.{eqb-true, eqb-false, eq-eqb}
+use lib.Dec.{eqb}
+use lib.ListN.{length, getD, take, drop, length-take, length-drop}
+use lib.Seq.{take-all, take-add, drop-drop, getD-drop}
+use Rattle.basis.specs.Test.{each}
+use Rattle.basis.proofs.ListLaws.{each-more}
+use Rattle.format.specs.declared.Head.{Head}
+use Rattle.format.specs.declared.Row.{Row}
+use Rattle.format.specs.declared.Pair.{Pair}
+use Rattle.format.specs.declared.Shape.{Shape}
+use Rattle.format.specs.Limits.{maxMemory}
+use Rattle.format.specs.Shape.{tearOf}
+use Rattle.format.specs.Event.{Access, Event}
+use Rattle.format.specs.Execution.{Execution}
+use Rattle.format.specs.Field.{tagAt, lengthAt, nextAt, valueAt}
+use Rattle.format.specs.Layout.{editionOf, headBytes, eventBytes, dataBytes, rowBytes, pairBytes, headOf, shapeOf, seenOf, writtenOf, accessOf, eventOf, rowOf, pairOf}
+use Rattle.format.proofs.LayoutLaws.{data-whole}
+use Rattle.parse.specs.Parse.{eventFault}
+use Rattle.parse.specs.Promise.{WellEvent}
+use Rattle.parse.proofs.ParseLaws.{event-passed}
+use Rattle.parse.proofs.EventLaws.{well-event}
+use Rattle.encode.specs.Table.{Description, Table, describe, tableOf}
+use Rattle.encode.specs.Encode.{field, kindByte, headValue, eventValue, rowValue, pairValue, run, encode}
+
+-- ---- one entry more
+
+module _ {A : Type 0} (tag : ℕ) (value : A → List ℕ) where
+  pub run-snoc : (l : List A) (a : A) → run tag value (l ++ (a ∷ [])) ≡ run tag value l ++ field tag (value a)
+  unfolding run
+  run-snoc [] a = append-nil (field tag (value a))
+  run-snoc (b ∷ l) a = ap (λ (m : List ℕ). field tag (value b) ++ m) (run-snoc l a) ∙ sym (append-assoc (field tag (value b)) (run tag value l) (field tag (value a)))
+
+-- ---- a field
+
+pub length-field : (tag : ℕ) (v : List ℕ) → length (field tag v) ≡ 3 + length v
+unfolding field
+length-field tag v = omega arith
+
+front : (l : List ℕ) (n : ℕ) → 3 ≤ length l → take (suc (suc (suc n))) l ≡ getD l 0 0 ∷ getD l 1 0 ∷ getD l 2 0 ∷ take n (drop 3 l)
+front [] n h = absurd (omega arith)
+front (a ∷ []) n h = absurd (omega arith)
+front (a ∷ b ∷ []) n h = absurd (omega arith)
+front (a ∷ b ∷ c ∷ l) n h = refl
+
+cells : {a b c d e f : ℕ} {v w : List ℕ} → a ≡ d → b ≡ e → c ≡ f → v ≡ w → _≡_ {A = List ℕ} (a ∷ b ∷ c ∷ v) (d ∷ e ∷ f ∷ w)
+cells p q r u = cc
+
+-- what stands before the field at p, and the field; its length is below 256, so that the first byte of it is 0 and the second is the length, whatever
+-- numbers the list has
+pub field-back : (s : List ℕ) (p : ℕ) → nextAt s p ≤ length s → lengthAt s p < 256
+    → take (nextAt s p) s ≡ take p s ++ field (tagAt s p) (valueAt s p)
+unfolding field valueAt
+field-back s p h b =
+    let l : length (valueAt s p) ≡ lengthAt s p = simp (length-take, length-drop) (omega arith) in
+    let g : (i j : ℕ) → p + i ≡ j → getD (drop p s) i 0 ≡ getD s j 0 = λ i j e. getD-drop p s i 0 ∙ ap (λ (k : ℕ). getD s k 0) e in
+    let hi : 0 ≡ getD s (p + 1) 0 = omega arith in
+    let lo : lengthAt s p ≡ getD s (p + 2) 0 = omega arith in
+    ap (λ (k : ℕ). take k s) (let e : nextAt s p ≡ p + suc (suc (suc (lengthAt s p))) = omega arith in e)
+    ∙ take-add p (suc (suc (suc (lengthAt s p)))) s
+    ∙ ap (λ (m : List ℕ). take p s ++ m)
+    (front (drop p s) (lengthAt s p) (simp length-drop (omega arith))
+    ∙ cells (g 0 p (omega arith))
+    (g 1 (p + 1) refl ∙ sym (ap (λ (k : ℕ). k / 256 % 256) l ∙ ap (λ (k : ℕ). k % 256) (div-eq-of-lt b) ∙ hi))
+    (g 2 (p + 2) refl ∙ sym (ap (λ (k : ℕ). k % 256) l ∙ mod-eq-of-lt b ∙ lo))
+    (ap (λ (m : List ℕ). take (lengthAt s p) m) (drop-drop 3 p s)))
+
+-- ---- values
+
+-- a value of n bytes is its n bytes
+three : (v : List ℕ) → length v ≡ 3 → v ≡ getD v 0 0 ∷ getD v 1 0 ∷ getD v 2 0 ∷ []
+three v h = sym (take-all 3 v (omega arith)) ∙ front v 0 (omega arith)
+
+two : (v : List ℕ) → length v ≡ 2 → v ≡ getD v 0 0 ∷ getD v 1 0 ∷ []
+two [] h = absurd (omega arith)
+two (a ∷ []) h = absurd (omega arith)
+two (a ∷ b ∷ []) h = refl
+two (a ∷ b ∷ c ∷ l) h = absurd (omega arith)
+
+five : (v : List ℕ) → 5 ≤ length v → v ≡ getD v 0 0 ∷ getD v 1 0 ∷ getD v 2 0 ∷ getD v 3 0 ∷ getD v 4 0 ∷ drop 5 v
+five [] h = absurd (omega arith)
+five (a ∷ []) h = absurd (omega arith)
+five (a ∷ b ∷ []) h = absurd (omega arith)
+five (a ∷ b ∷ c ∷ []) h = absurd (omega arith)
+five (a ∷ b ∷ c ∷ d ∷ []) h = absurd (omega arith)
+five (a ∷ b ∷ c ∷ d ∷ e ∷ l) h = refl
+
+pub head-back : (v : List ℕ) → length v ≡ headBytes (editionOf v) → headValue (headOf (editionOf v) v) ≡ v
+unfolding headBytes
+head-back v h = sym (three v h)
+
+pub row-back : (edition : ℕ) (v : List ℕ) → length v ≡ rowBytes edition → rowValue edition (rowOf edition v) ≡ v
+unfolding rowBytes
+row-back edition v h = sym (three v h)
+
+pub pair-back : (v : List ℕ) → length v ≡ pairBytes → pairValue (pairOf v) ≡ v
+pair-back v h = sym (two v h)
+
+-- ---- an event
+
+-- what is asked of a value for its data to be what was seen and written
+record Kinds (a : Shape) : Type 0 where
+  low : 1 ≤ a .kind
+  high : a .kind ≤ 4
+  marker : a .kind ≡ 4 → a .width ≡ 0
+  narrow : a .width ≤ maxMemory
+
+module _ (h : Head) (events : List Event) (v : List ℕ) (e : eventFault h events v ≡ 0) where
+  well-kinds : Kinds (shapeOf (h .edition) v)
+  well-kinds = subst (λ (b : Access). Kinds (b .shape)) is (record { low = w .kind .0; high = w .kind .1; marker = λ k. w .marker k .2; narrow = narrow })
+    where
+      w : WellEvent h (eventOf (h .edition) v)
+      w = well-event h events v e
+
+      is : w .access ≡ accessOf (h .edition) v
+      is = let q = w .one-access in cc
+
+      one : (w .access .shape .width ≡ 1) ⊎ (w .access .shape .width ≡ 2) ⊎ (w .access .shape .width ≡ 4) ⊎ (w .access .shape .width ≡ 8) → w .access .shape .width ≤ maxMemory
+      one (inl q) = omega arith
+      one (inr (inl q)) = omega arith
+      one (inr (inr (inl q))) = omega arith
+      one (inr (inr (inr q))) = omega arith
+
+      narrow : w .access .shape .width ≤ maxMemory
+      narrow = go (eqb (w .access .shape .mode) 0) refl (eqb (w .access .shape .kind) 4) refl
+        where
+          go : (b : Bool) → eqb (w .access .shape .mode) 0 ≡ b → (c : Bool) → eqb (w .access .shape .kind) 4 ≡ c → w .access .shape .width ≤ maxMemory
+          go true p c q = w .init-width (eqb-true _ _ p) .1
+          go false p true q = let z = w .marker (eqb-true _ _ q) .2 in omega arith
+          go false p false q = one (w .width (eqb-false _ _ p) (eqb-false _ _ q))
+
+  data-back : seenOf (h .edition) v ++ writtenOf (h .edition) v ≡ drop (eventBytes (h .edition)) v
+  data-back =
+      let l = event-passed h events v e .length in
+      let k = well-kinds in
+      data-whole (h .edition) v (k .low) (k .high) (k .marker)
+      ∙ take-all (dataBytes (shapeOf (h .edition) v)) (drop (eventBytes (h .edition)) v) (simp length-drop (omega arith))
+
+  five-long : 5 ≤ length v
+  unfolding eventBytes
+  five-long = let l = event-passed h events v e .length in omega arith
+
+  -- a value without a fault is the value of its description
+  pub event-clean-back : eventValue (h .edition) (describe (eventOf (h .edition) v)) ≡ v
+  unfolding describe kindByte eventBytes
+  event-clean-back =
+      let t = tearOf (getD v 1 0) (getD v 2 0) (getD v 3 0) (getD v 4 0) in
+      rw (eq-eqb t t refl, data-back) (sym (five v five-long))
+
+  -- and is short
+  pub event-short : length v < 256
+  unfolding eventBytes dataBytes
+  event-short = let l = event-passed h events v e .length in go (eqb (shapeOf (h .edition) v .kind) 3) l
+    where
+      go : (b : Bool) → length v ≡ 5 + cond b (shapeOf (h .edition) v .width + shapeOf (h .edition) v .width) (shapeOf (h .edition) v .width) → length v < 256
+      go true l = let k = well-kinds .narrow in omega arith
+      go false l = let k = well-kinds .narrow in omega arith
+
+-- and the other way: a description whose value has no fault is what its value describes
+kind-kept : (d : Description) → 1 ≤ kindByte d → (kindByte d ≡ d .kind) × (tearOf (d .kind) (d .mode) (d .start) (d .width) ≡ d .tear)
+unfolding kindByte
+kind-kept d h = go (eqb (d .tear) (tearOf (d .kind) (d .mode) (d .start) (d .width))) refl h
+  where
+    go : (b : Bool) → eqb (d .tear) (tearOf (d .kind) (d .mode) (d .start) (d .width)) ≡ b → 1 ≤ cond b (d .kind) 0
+        → (cond b (d .kind) 0 ≡ d .kind) × (tearOf (d .kind) (d .mode) (d .start) (d .width) ≡ d .tear)
+    go true p q = (refl, sym (eqb-true _ _ p))
+    go false p q = absurd (omega arith)
+
+pub event-forth : (h : Head) (events : List Event) (d : Description) → eventFault h events (eventValue (h .edition) d) ≡ 0
+    → describe (eventOf (h .edition) (eventValue (h .edition) d)) ≡ d
+unfolding describe eventBytes
+event-forth h events d e =
+    let b = data-back h events (eventValue (h .edition) d) e in
+    let q = kind-kept d (well-kinds h events (eventValue (h .edition) d) e .low) in
+    rw (b, q .0, q .1) refl
+
+-- ---- the bytes of a table with one field more at its end
+
+-- the head alone
+pub encode-head : (x : Execution) → x .events ≡ [] → x .rows ≡ [] → x .pairs ≡ [] → encode (tableOf x) ≡ field 1 (headValue (x .head))
+unfolding encode tableOf run each field
+encode-head x a b c = rw (a, b, c) (append-nil (field 1 (headValue (x .head))))
+
+pub encode-event : (h : Head) (l : List Event) (d : Event) (rows : List Row) (pairs : List Pair) → rows ≡ [] → pairs ≡ []
+    → encode (tableOf (record { head = h; events = l ++ (d ∷ []); rows = rows; pairs = pairs }))
+    ≡ encode (tableOf (record { head = h; events = l; rows = rows; pairs = pairs })) ++ field 2 (eventValue (h .edition) (describe d))
+unfolding encode tableOf run
+encode-event h l d rows pairs a b =
+    rw (a, b, each-more describe l d, run-snoc 2 (eventValue (h .edition)) (each describe l) (describe d)) (simp (append-assoc, append-nil))
+
+pub encode-row : (h : Head) (l : List Event) (rows : List Row) (r : Row) (pairs : List Pair) → pairs ≡ []
+    → encode (tableOf (record { head = h; events = l; rows = rows ++ (r ∷ []); pairs = pairs }))
+    ≡ encode (tableOf (record { head = h; events = l; rows = rows; pairs = pairs })) ++ field 3 (rowValue (h .edition) r)
+unfolding encode tableOf run
+encode-row h l rows r pairs a = rw (a, run-snoc 3 (rowValue (h .edition)) rows r) (simp (append-assoc, append-nil))
+
+pub encode-pair : (h : Head) (l : List Event) (rows : List Row) (pairs : List Pair) (p : Pair)
+    → encode (tableOf (record { head = h; events = l; rows = rows; pairs = pairs ++ (p ∷ []) }))
+    ≡ encode (tableOf (record { head = h; events = l; rows = rows; pairs = pairs })) ++ field 4 (pairValue p)
+unfolding encode tableOf
+encode-pair h l rows pairs p = rw (run-snoc 4 pairValue pairs p) (simp append-assoc)
+
+-- the four parts of a sheet, the later ones grouped
+pub sheet-split : (t : Table)
+    → encode t ≡ field 1 (headValue (t .head)) ++ (run 2 (eventValue (t .head .edition)) (t .events) ++ (run 3 (rowValue (t .head .edition)) (t .rows) ++ run 4 pairValue (t .pairs)))
+unfolding encode
+sheet-split t = simp append-assoc

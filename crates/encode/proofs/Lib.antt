@@ -1,1 +1,3 @@
 pub mod EncodeLaws
+pub mod LendLaws
+pub mod WrittenBack

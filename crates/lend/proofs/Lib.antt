@@ -1,0 +1,3 @@
+pub mod WholeLaws
+pub mod LendingLaws
+pub mod Demands

@@ -1,3 +1,4 @@
 pub mod WholeLaws
 pub mod LendingLaws
+pub mod WaysLaws
 pub mod Demands

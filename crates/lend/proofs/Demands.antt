@@ -1,9 +1,9 @@
 -- What specs/Demands.antt claims. Assumes nothing.
 use mathlib.Core.Path.{refl}
-use Rattle.lend.specs.Demands.{LendsTheTable, RefusedKeeps, ShortOfWhole, Agree}
+use Rattle.lend.specs.Demands.{LendsTheTable, RefusedKeeps, ShortOfWhole, Agree, FitsWord}
 use Rattle.lend.specs.declared.Lent.the-variants.{Refused, Table}
 use Rattle.lend.proofs.LendingLaws.{lending-unique}
-use Rattle.lend.proofs.WaysLaws.{lending-ways, refused-kept, short-whole, table-back}
+use Rattle.lend.proofs.WaysLaws.{lending-ways, refused-kept, short-whole, table-back, table-fits}
 
 pub lends-the-table : LendsTheTable
 lends-the-table s entry exit e d r p w = table-back (lending-ways s entry exit (Table e d r p) w) refl
@@ -16,3 +16,6 @@ short-of-whole s entry exit k w = short-whole (lending-ways s entry exit (Refuse
 
 pub agree : Agree
 agree s entry q r exit exit′ a b = lending-unique a b
+
+pub fits-word : FitsWord
+fits-word s entry exit e d r p w = table-fits (lending-ways s entry exit (Table e d r p) w) refl

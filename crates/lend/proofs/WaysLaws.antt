@@ -3,6 +3,7 @@
 --     refused-kept             what is refused has changed nothing
 --     short-whole              15 is of a whole sheet
 --     table-back               the fronts of filled buffers lend the table
+--     table-fits               their numbers fit the word
 use mathlib.Core.Path.{_≡_, refl, sym, ap, _∙_, subst}
 use mathlib.Core.Logic.{_⊎_, inl, inr}
 use mathlib.Core.Bool.{Bool, true, false, cond}
@@ -27,7 +28,9 @@ use Rattle.encode.proofs.LendLaws.{flat-length, lends}
 use Rattle.lend.specs.declared.Lent.{Lent}
 use Rattle.lend.specs.declared.Lent.the-variants.{Refused, Table}
 use Rattle.lend.specs.Lending.{five, buffers, shortOf, over, filledBy, heldBy, lentBy, Lending}
-use Rattle.lend.specs.Demands.{fronts, TableOf, Short}
+use Rattle.lend.specs.Word.{lentWord}
+use Rattle.lend.specs.Demands.{fronts, TableOf, Short, WordOf}
+use Rattle.lend.proofs.WordLaws.{few-counts, word-parts}
 
 abbrev counted : Execution → Lent
 counted x = Table (length (x .events)) (length (slicesOf (tableOf x) .bytes)) (length (x .rows)) (length (x .pairs))
@@ -99,3 +102,14 @@ table-back (Ways.unread w) t = refused-table t
 table-back (Ways.short x w h) t = refused-table t
 table-back {s} {entry} {exit} {q} {e} {d} {r} {p} (Ways.filled x w) t =
     record { execution = x; says = w; back = ap tableIn (fronts-filled x entry e d r p (let z : counted x ≡ Table e d r p = t in cc) (let z : counted x ≡ Table e d r p = t in cc) (let z : counted x ≡ Table e d r p = t in cc) (let z : counted x ≡ Table e d r p = t in cc)) ∙ lends (tableOf x) }
+
+pub table-fits : {s : List ℕ} {entry exit : Slices} {q : Lent} {e d r p : ℕ} → Ways s entry q exit → q ≡ Table e d r p → WordOf (lentWord (Table e d r p)) e d r p
+table-fits (Ways.unread w) t = refused-table t
+table-fits (Ways.short x w h) t = refused-table t
+table-fits {s} {entry} {exit} {q} {e} {d} {r} {p} (Ways.filled x w) t =
+    let f = few-counts s x w in
+    let z : e ≡ length (x .events) = cc in
+    let y : d ≡ length (slicesOf (tableOf x) .bytes) = cc in
+    let v : r ≡ length (x .rows) = cc in
+    let u : p ≡ length (x .pairs) = cc in
+    word-parts e d r p (rw z (f .events)) (rw y (f .bytes)) (rw v (f .rows)) (rw u (f .pairs))

@@ -6,13 +6,13 @@
 use mathlib.Core.Path.{_≡_, refl, sym, ap, _∙_}
 use mathlib.Core.Bool.{Bool, true, false, cond}
 use mathlib.Core.List.{List, _++_}
-use Prim.Native.Nat.{ℕ, _+_, _*_, _<_, _≤_}
+use Prim.Native.Nat.{ℕ, _*_, _<_, _≤_}
 use native.Mathlib.Omega.{arith}
 use borrow.Author.Tests.{lt-ltb, le-ltb, ltb-false}
 use lib.Dec.{ltb}
-use lib.ListN.{length, drop, take, take-append-drop}
+use lib.ListN.{length, drop, take-append-drop}
 use Rattle.format.specs.Layout.{headBytes, rowBytes, pairBytes}
-use Rattle.parse.specs.Parse.{refused, whole, parse}
+use Rattle.parse.specs.Parse.{refused, parse}
 use Rattle.entries.specs.declared.Counts.{Counts}
 use Rattle.entries.specs.Entries.{execution}
 use Rattle.entries.proofs.EntriesLaws.{events-count, rows-count, pairs-count}

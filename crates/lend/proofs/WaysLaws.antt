@@ -7,12 +7,12 @@
 use mathlib.Core.Path.{_≡_, refl, sym, ap, _∙_, subst}
 use mathlib.Core.Logic.{_⊎_, inl, inr}
 use mathlib.Core.Bool.{Bool, true, false, cond}
-use mathlib.Core.List.{List, [], _++_}
+use mathlib.Core.List.{List}
 use Prim.Native.Nat.{ℕ, _*_, _<_, _≤_}
 use native.Mathlib.Omega.{arith}
-use borrow.Author.Tests.{ltb-true, ltb-false}
+use borrow.Author.Tests.{ltb-true}
 use lib.Dec.{ltb}
-use lib.ListN.{length, take, drop}
+use lib.ListN.{length, drop}
 use lib.Seq.{take-at}
 use Rattle.basis.specs.Test.{each}
 use Rattle.basis.proofs.ListLaws.{each-length}
@@ -27,7 +27,7 @@ use Rattle.encode.specs.Lend.{Slices, eight, slicesOf, tableIn}
 use Rattle.encode.proofs.LendLaws.{flat-length, lends}
 use Rattle.lend.specs.declared.Lent.{Lent}
 use Rattle.lend.specs.declared.Lent.the-variants.{Refused, Table}
-use Rattle.lend.specs.Lending.{five, buffers, shortOf, over, filledBy, heldBy, lentBy, Lending}
+use Rattle.lend.specs.Lending.{five, buffers, shortOf, filledBy, heldBy, lentBy, Lending}
 use Rattle.lend.specs.Word.{lentWord}
 use Rattle.lend.specs.Demands.{fronts, TableOf, Short, WordOf}
 use Rattle.lend.proofs.WordLaws.{few-counts, word-parts}
@@ -101,7 +101,11 @@ pub table-back : {s : List ℕ} {entry exit : Slices} {q : Lent} {e d r p : ℕ}
 table-back (Ways.unread w) t = refused-table t
 table-back (Ways.short x w h) t = refused-table t
 table-back {s} {entry} {exit} {q} {e} {d} {r} {p} (Ways.filled x w) t =
-    record { execution = x; says = w; back = ap tableIn (fronts-filled x entry e d r p (let z : counted x ≡ Table e d r p = t in cc) (let z : counted x ≡ Table e d r p = t in cc) (let z : counted x ≡ Table e d r p = t in cc) (let z : counted x ≡ Table e d r p = t in cc)) ∙ lends (tableOf x) }
+    let z : e ≡ length (x .events) = cc in
+    let y : d ≡ length (slicesOf (tableOf x) .bytes) = cc in
+    let v : r ≡ length (x .rows) = cc in
+    let u : p ≡ length (x .pairs) = cc in
+    record { execution = x; says = w; back = ap tableIn (fronts-filled x entry e d r p z y v u) ∙ lends (tableOf x) }
 
 pub table-fits : {s : List ℕ} {entry exit : Slices} {q : Lent} {e d r p : ℕ} → Ways s entry q exit → q ≡ Table e d r p → WordOf (lentWord (Table e d r p)) e d r p
 table-fits (Ways.unread w) t = refused-table t

@@ -3,24 +3,21 @@
 --     slices-whole                                      the slices
 --     events-long, data-long, rows-long, pairs-long     their lengths
 use mathlib.Core.Path.{_≡_, refl, sym, ap, _∙_, subst}
-use mathlib.Core.Bool.{Bool, true, false, cond}
+use mathlib.Core.Bool.{cond}
 use mathlib.Core.List.{List, [], _∷_, _++_, map}
-use Prim.Native.Nat.{ℕ, zero, suc, _+_, _*_, _/_, _%_, _<_, _≤_}
+use Prim.Native.Nat.{ℕ, zero, suc, _+_, _*_, _<_, _≤_}
 use native.Mathlib.Omega.{arith}
 use lib.Dec.{eqb}
-use lib.ListN.{length, getD, take, drop, length-append}
+use lib.ListN.{length, getD, take, length-append}
 use lib.Seq.{getD-take, length-take-le}
 use Rattle.basis.specs.Test.{_or_, each}
-use Rattle.sets.specs.Mask.{slots}
 use Rattle.format.specs.declared.Head.{Head}
-use Rattle.format.specs.declared.Shape.{Shape}
 use Rattle.format.specs.Shape.{reads, writes}
-use Rattle.format.specs.Event.{Access, Event}
-use Rattle.format.specs.Execution.{Execution, event}
+use Rattle.format.specs.Event.{Access}
+use Rattle.format.specs.Execution.{event}
 use Rattle.format.specs.Field.{restAt}
-use Rattle.format.specs.Layout.{dataBytes, rowBytes, pairBytes, shapeOf, seenOf, writtenOf, accessOf}
+use Rattle.format.specs.Layout.{dataBytes, rowBytes, pairBytes, seenOf, writtenOf, accessOf}
 use Rattle.format.proofs.LayoutLaws.{data-whole}
-use Rattle.parse.specs.Parse.{whole, parse}
 use Rattle.parse.specs.Promise.{WellEvent}
 use Rattle.parse.proofs.PromiseLaws.{promise}
 use Rattle.entries.specs.declared.Counts.{Counts}
@@ -30,7 +27,7 @@ use Rattle.sheet.specs.Handed.{HandedWhole}
 use Rattle.encode.specs.Table.{describe, tableOf}
 use Rattle.encode.specs.Encode.{headValue, rowValue, pairValue}
 use Rattle.encode.specs.Lent.{descriptionBytes}
-use Rattle.encode.specs.Lend.{Slices, eight, dataOf, flat, slicesOf}
+use Rattle.encode.specs.Lend.{eight, dataOf, flat, slicesOf}
 use Rattle.encode.proofs.LendLaws.{flat-length}
 use Rattle.slices.specs.Sliced.{eightAt, dataAt, eventsSlice, dataSlice, rowsSlice, pairsSlice, sum, sizeAt, dataSum}
 use Rattle.lend.specs.Lending.{five}

@@ -4,19 +4,17 @@
 --     word-parts     the parts of the word of such numbers
 use mathlib.Core.Path.{_≡_, refl, sym, ap, _∙_}
 use mathlib.Core.List.{List, [], _∷_, _++_}
-use Prim.Native.Nat.{ℕ, _+_, _*_, _^_, _/_, _%_, _<_, _≤_}
+use Prim.Native.Nat.{ℕ, _+_, _*_, _^_, _<_, _≤_}
 use native.Mathlib.Omega.{arith}
 use lib.ListN.{length, length-append}
-use Rattle.basis.specs.Test.{each}
 use Rattle.basis.proofs.LoopLaws.{number-both}
 use Rattle.format.specs.Event.{isInit}
 use Rattle.format.specs.Execution.{Execution, inits, others}
-use Rattle.format.specs.Layout.{rowBytes, pairBytes}
 use Rattle.parse.specs.Parse.{whole, parse}
 use Rattle.parse.proofs.PromiseLaws.{promise}
 use Rattle.parse.proofs.FramedLaws.{accepted-framed}
-use Rattle.encode.specs.Table.{Description, Table, tableOf}
-use Rattle.encode.specs.Encode.{field, headValue, eventValue, rowValue, pairValue, run, encode}
+use Rattle.encode.specs.Table.{Table, tableOf}
+use Rattle.encode.specs.Encode.{field, headValue, eventValue, rowValue, pairValue, run}
 use Rattle.encode.specs.Lend.{dataOf, flat, slicesOf}
 use Rattle.encode.proofs.EncodeLaws.{length-field, sheet-split}
 use Rattle.encode.proofs.WrittenBack.{written-back}

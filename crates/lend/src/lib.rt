@@ -82,11 +82,11 @@ fn lend_whole(
     if k < BUFFERS {
         return Lent::Refused(15, k as u32);
     }
-    slices::put_head(x.head, head);
-    slices::put_events(s, x, at, events);
-    slices::put_data(s, x, at, bytes);
-    slices::put_rows(s, x, rows);
-    slices::put_pairs(s, x, pairs);
+    slices::put_head(head, x.head);
+    slices::put_events(events, s, x, at);
+    slices::put_data(bytes, s, x, at);
+    slices::put_rows(rows, s, x);
+    slices::put_pairs(pairs, s, x);
     Lent::Table(x.events, sum as u16, x.rows, x.pairs)
 }
 

@@ -7,7 +7,7 @@
 use mathlib.Core.Path.{_≡_, refl, sym, ap, _∙_}
 use mathlib.Core.Bool.{Bool, true, false, cond}
 use mathlib.Core.List.{List, [], _∷_, _++_, append-assoc, append-nil}
-use Prim.Native.Nat.{ℕ, zero, suc, _+_, _*_, _<_, _≤_, min}
+use Prim.Native.Nat.{ℕ, _+_, _*_, _<_, _≤_, min}
 use native.Mathlib.Omega.{arith}
 use native.Mathlib.Numerals.{add-one}
 use borrow.Author.Tests.{leb-true, leb-false}
@@ -16,7 +16,6 @@ use lib.ListN.{length, getD, take}
 use lib.Seq.{take-all, take-suc}
 use Rattle.format.specs.declared.Shape.{Shape}
 use Rattle.format.specs.Layout.{dataBytes, rowGap, pairGap}
-use Rattle.entries.specs.declared.Counts.{Counts}
 use Rattle.entries.specs.Entries.{spaced, rowAt, pairAt, rowsOn, pairsOn}
 use Rattle.entries.proofs.EntriesLaws.{spaced-more}
 use Rattle.encode.specs.Encode.{rowValue, pairValue}
@@ -40,10 +39,6 @@ module _ {A : Type 0} (f : A → List ℕ) where
   pub flat-none : _≡_ {A = List ℕ} [] (flat f [])
   unfolding flat
   flat-none = refl
-
-  pub flat-one : (a : A) → flat f (a ∷ []) ≡ f a
-  unfolding flat
-  flat-one a = append-nil (f a)
 
 module _ (f : ℕ → List ℕ) (at : List ℕ) where
   pub flat-more : (e : ℕ) → e < length at → flat f (take (e + 1) at) ≡ flat f (take e at) ++ f (getD at e 0)

@@ -10,7 +10,7 @@ ghost use Rattle.puts.specs.Put.{Puts};
 ghost use Rattle.slices.specs.Sliced.{eightAt, dataAt, eventsSlice, dataSlice, rowsSlice, pairsSlice, Counted};
 
 // The bytes of a head.
-pub fn put_head(h: Head, out: &mut [u8]) -> usize
+pub fn put_head(out: &mut [u8], h: Head) -> usize
     ensures { λ r. ⌜ Puts (headValue h) 0 r (now (out .entry)) (now (out .exit)) ⌝ }
 {
     let bytes = [h.edition, h.agents, h.size];
@@ -18,7 +18,7 @@ pub fn put_head(h: Head, out: &mut [u8]) -> usize
 }
 
 // The eight bytes of the event at p, put at `to`.
-fn put_event(s: &[u8], edition: u8, p: u16, out: &mut [u8], to: usize) -> usize
+fn put_event(out: &mut [u8], to: usize, s: &[u8], edition: u8, p: u16) -> usize
     ensures { λ r. ⌜ Puts (eightAt (now (s .entry)) edition p) to r (now (out .entry)) (now (out .exit)) ⌝ }
 {
     let agent = entries::agent_at(s, p);
@@ -38,7 +38,7 @@ fn put_event(s: &[u8], edition: u8, p: u16, out: &mut [u8], to: usize) -> usize
 }
 
 // The events.
-pub fn put_events(s: &[u8], x: Counts, at: &[u16], out: &mut [u8]) -> usize
+pub fn put_events(out: &mut [u8], s: &[u8], x: Counts, at: &[u16]) -> usize
     ensures { λ r. ⌜ Puts (eventsSlice (now (s .entry)) x (now (at .entry))) 0 r (now (out .entry)) (now (out .exit)) ⌝ }
 {
     let edition = x.head.edition;
@@ -46,7 +46,7 @@ pub fn put_events(s: &[u8], x: Counts, at: &[u16], out: &mut [u8]) -> usize
     let mut next = 0;
     let mut e: u8 = 0;
     while e < n {
-        next = put_event(s, edition, at[e as usize], out, next);
+        next = put_event(out, next, s, edition, at[e as usize]);
         e += 1;
     }
     next
@@ -77,7 +77,7 @@ fn data_at(s: &[u8], edition: u8, p: u16) -> &[u8]
 }
 
 // The data of all events.
-pub fn put_data(s: &[u8], x: Counts, at: &[u16], out: &mut [u8]) -> usize
+pub fn put_data(out: &mut [u8], s: &[u8], x: Counts, at: &[u16]) -> usize
     ensures { λ r. ⌜ Puts (dataSlice (now (s .entry)) x (now (at .entry))) 0 r (now (out .entry)) (now (out .exit)) ⌝ }
 {
     let edition = x.head.edition;
@@ -107,7 +107,7 @@ pub fn data_count(s: &[u8], x: Counts, at: &[u16]) -> u32
 }
 
 // The rows.
-pub fn put_rows(s: &[u8], x: Counts, out: &mut [u8]) -> usize
+pub fn put_rows(out: &mut [u8], s: &[u8], x: Counts) -> usize
     ensures { λ r. ⌜ Puts (rowsSlice (now (s .entry)) x) 0 r (now (out .entry)) (now (out .exit)) ⌝ }
 {
     let n = x.rows;
@@ -123,7 +123,7 @@ pub fn put_rows(s: &[u8], x: Counts, out: &mut [u8]) -> usize
 }
 
 // The pairs.
-pub fn put_pairs(s: &[u8], x: Counts, out: &mut [u8]) -> usize
+pub fn put_pairs(out: &mut [u8], s: &[u8], x: Counts) -> usize
     ensures { λ r. ⌜ Puts (pairsSlice (now (s .entry)) x) 0 r (now (out .entry)) (now (out .exit)) ⌝ }
 {
     let n = x.pairs;

@@ -1,5 +1,4 @@
 -- `lend::pack` meets its contract: in each arm the case of the answer is known. Assumes nothing.
-use native.Mathlib.Omega.{arith}
 use borrow.Author.Needs.{needs}
 use Rattle.lend.proofs.pack.Statement.{statement}
 use Rattle.lend.proofs.pack.Tie as tie

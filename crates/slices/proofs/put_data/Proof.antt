@@ -1,5 +1,5 @@
 -- `slices::put_data` meets its contract. The invariant: the data of the first e events is put. The measure is what is left. Assumes nothing.
-use mathlib.Core.Path.{_≡_, sym, _∙_}
+use mathlib.Core.Path.{_≡_, _∙_}
 use Prim.Native.Nat.{_-_, _≤_}
 use denote.Ref.{now}
 use native.Mathlib.Omega.{arith}
@@ -14,10 +14,10 @@ use Rattle.slices.proofs.put_data.Statement.{statement}
 use Rattle.slices.proofs.put_data.Tie as tie
 
 abbrev Inv-loop : tie.InvT-loop
-Inv-loop s at out₀ edition n next₀ e₀ out next e = (e ≤ n) × (n ≤ length at) × Puts (flat (dataAt s edition) (take e at)) 0 next out₀ out
+Inv-loop out₀ s at edition n next₀ e₀ out next e = (e ≤ n) × (n ≤ length at) × Puts (flat (dataAt s edition) (take e at)) 0 next out₀ out
 
 abbrev μ-loop : tie.MeasureT-loop
-μ-loop s at out₀ edition n next₀ e₀ out next e = n - e
+μ-loop out₀ s at edition n next₀ e₀ out next e = n - e
 
 count-requires : tie.Need-count-requires Inv-loop μ-loop
 count-requires c κs = search needs

@@ -1,5 +1,5 @@
 -- `slices::put_events` meets its contract. The invariant: the eight bytes of the first e events are put. The measure is what is left. Assumes nothing.
-use mathlib.Core.Path.{_≡_, sym, _∙_}
+use mathlib.Core.Path.{_≡_, _∙_}
 use Prim.Native.Nat.{_-_, _≤_}
 use denote.Ref.{now}
 use native.Mathlib.Omega.{arith}
@@ -14,10 +14,10 @@ use Rattle.slices.proofs.put_events.Statement.{statement}
 use Rattle.slices.proofs.put_events.Tie as tie
 
 abbrev Inv-loop : tie.InvT-loop
-Inv-loop s at out₀ edition n next₀ e₀ out next e = (e ≤ n) × (n ≤ length at) × Puts (flat (eightAt s edition) (take e at)) 0 next out₀ out
+Inv-loop out₀ s at edition n next₀ e₀ out next e = (e ≤ n) × (n ≤ length at) × Puts (flat (eightAt s edition) (take e at)) 0 next out₀ out
 
 abbrev μ-loop : tie.MeasureT-loop
-μ-loop s at out₀ edition n next₀ e₀ out next e = n - e
+μ-loop out₀ s at edition n next₀ e₀ out next e = n - e
 
 count-requires : tie.Need-count-requires Inv-loop μ-loop
 count-requires c κs = search needs
@@ -32,7 +32,7 @@ mul-put-event : tie.Need-mul-put-event Inv-loop μ-loop
 mul-put-event c = search needs
 
 shared-slice-read-put-event : tie.Need-shared-slice-read-put-event Inv-loop μ-loop
-shared-slice-read-put-event c = let b = c .before .before .loop .inv .1 in omega arith
+shared-slice-read-put-event c = let b = c .before .before .before .loop .inv .1 in omega arith
 
 put-event-requires : tie.Need-put-event-requires Inv-loop μ-loop
 put-event-requires c κs = search needs

@@ -14,10 +14,10 @@ use Rattle.slices.proofs.put_pairs.Statement.{statement}
 use Rattle.slices.proofs.put_pairs.Tie as tie
 
 abbrev Inv-loop : tie.InvT-loop
-Inv-loop s x out₀ n next₀ j₀ out next j = (j ≤ n) × Puts (flat pairValue (pairsOn s (x .«pairs_at») j)) 0 next out₀ out
+Inv-loop out₀ s x n next₀ j₀ out next j = (j ≤ n) × Puts (flat pairValue (pairsOn s (x .«pairs_at») j)) 0 next out₀ out
 
 abbrev μ-loop : tie.MeasureT-loop
-μ-loop s x out₀ n next₀ j₀ out next j = n - j
+μ-loop out₀ s x n next₀ j₀ out next j = n - j
 
 loop-holds : tie.Need-loop-holds Inv-loop μ-loop
 loop-holds c = (omega arith, rw (← (pairs-none (now (c .before .before .args .s)) (c .before .before .args .x .«pairs_at»))) (puts-none 0 (now (c .before .before .args .out))))

@@ -17,7 +17,7 @@ use Rattle.encode.specs.Lent.{part, entries, descriptionBytes, dataLengt
 use Rattle.encode.specs.Lend.{eight, dataOf, flat, Lends}
 
 module _ {A : Type 0} (f : A → List ℕ) (gap : ℕ) (fixed : (a : A) → length (f a) ≡ gap) where
-  flat-length : (l : List A) → length (flat f l) ≡ length l * gap
+  pub flat-length : (l : List A) → length (flat f l) ≡ length l * gap
   unfolding flat
   flat-length [] = omega arith
   flat-length (a ∷ l) = length-append (f a) (flat f l) ∙ ap (λ (n : ℕ). n + length (flat f l)) (fixed a) ∙ ap (λ (n : ℕ). gap + n) (flat-length l) ∙ (let e = suc-mul (length l) gap in omega arith)

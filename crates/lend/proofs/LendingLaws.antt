@@ -26,7 +26,7 @@ use Rattle.puts.proofs.PutLaws.{puts-put}
 use Rattle.slices.specs.Sliced.{eventsSlice, dataSlice, rowsSlice, pairsSlice, dataSum}
 use Rattle.lend.specs.declared.Lent.{Lent}
 use Rattle.lend.specs.declared.Lent.the-variants.{Refused, Table}
-use Rattle.lend.specs.Lending.{five, buffers, shortBy, shortOf, lentBy, heldBy, over, filledBy, Lending}
+use Rattle.lend.specs.Lending.{five, buffers, shortBy, shortOf, lentBy, heldBy, overlaid, filledBy, Lending}
 use Rattle.lend.proofs.WholeLaws.{slices-whole, events-long, data-long, rows-long, pairs-long}
 
 pub lending-unique : {s : List ℕ} {entry exit exit′ : Slices} {q r : Lent} → Lending s entry q exit → Lending s entry r exit′ → (q ≡ r) × (exit ≡ exit′)
@@ -36,8 +36,8 @@ pub lending-refused : {s : List ℕ} {n p : ℕ} (entry : Slices) → parse s �
 lending-refused entry e = record { answer = sym (ap (λ q. lentBy q entry) e); held = sym (ap (λ q. heldBy q entry) e) }
 
 -- where there is room, what was put is a front
-over-put : {piece e f : List ℕ} {n : ℕ} → length piece ≤ length e → Puts piece 0 n e f → f ≡ over piece e
-over-put {piece} {e} {f} {n} h a =
+overlaid-put : {piece e f : List ℕ} {n : ℕ} → length piece ≤ length e → Puts piece 0 n e f → f ≡ overlaid piece e
+overlaid-put {piece} {e} {f} {n} h a =
     let q = puts-put {p = piece} {e = e} {f = f} {at = 0} {m = n} (omega arith) a in
     let k : n ≡ length piece = let b = q .after in omega arith in
     sym (take-append-drop n f) ∙ ap (λ (l : List ℕ). l ++ drop n f) (q .written) ∙ ap (λ (l : List ℕ). piece ++ l) (q .rest) ∙ ap (λ (m : ℕ). piece ++ drop m e) k
@@ -118,6 +118,6 @@ module _ (s : List ℕ) (x : Counts) (at : List ℕ) (w : HandedWhole s x at) (e
           answer = rw (w .says, z) (table-same (sym (events-count s (x .head .edition) (x .events) at fit)) (c ∙ sym bytes-long) (sym (rows-count s (x .head .edition) (x .«rows_at») (x .rows))) (sym (pairs-count s (x .«pairs_at») (x .pairs))));
           held =
               simp (w .says, z)
-              (five-same (over-put (room .head) p) (over-put (room .events) q) (over-put (room .bytes) r) (over-put (room .rows) t) (over-put (room .pairs) u)
+              (five-same (overlaid-put (room .head) p) (overlaid-put (room .events) q) (overlaid-put (room .bytes) r) (overlaid-put (room .rows) t) (overlaid-put (room .pairs) u)
               ∙ ap (λ (m : Slices). filledBy m entry) (sym (slices-whole s x at w)));
         }

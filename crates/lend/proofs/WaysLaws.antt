@@ -29,7 +29,7 @@ use Rattle.lend.specs.declared.Lent.{Lent}
 use Rattle.lend.specs.declared.Lent.the-variants.{Refused, Table}
 use Rattle.lend.specs.Lending.{five, buffers, shortOf, filledBy, heldBy, lentBy, Lending}
 use Rattle.lend.specs.Word.{lentWord}
-use Rattle.lend.specs.Demands.{fronts, TableOf, Short, WordOf}
+use Rattle.lend.specs.Demands.{fronts, GivesTable, Short, WordOf}
 use Rattle.lend.proofs.WordLaws.{few-counts, word-parts}
 
 abbrev counted : Execution → Lent
@@ -97,7 +97,7 @@ module _ (x : Execution) (b : Slices) (e d r p : ℕ) (f : e ≡ length (x .even
       (take-at (l .rows) (drop (length (l .rows)) (b .rows)) (r * rowBytes (x .head .edition)) c i)
       (take-at (l .pairs) (drop (length (l .pairs)) (b .pairs)) (p * pairBytes) h i)
 
-pub table-back : {s : List ℕ} {entry exit : Slices} {q : Lent} {e d r p : ℕ} → Ways s entry q exit → q ≡ Table e d r p → TableOf s (fronts exit e d r p)
+pub table-back : {s : List ℕ} {entry exit : Slices} {q : Lent} {e d r p : ℕ} → Ways s entry q exit → q ≡ Table e d r p → GivesTable s (fronts exit e d r p)
 table-back (Ways.unread w) t = refused-table t
 table-back (Ways.short x w h) t = refused-table t
 table-back {s} {entry} {exit} {q} {e} {d} {r} {p} (Ways.filled x w) t =

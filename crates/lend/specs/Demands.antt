@@ -2,8 +2,8 @@
 --     LendsTheTable       the fronts of the buffers lend the sheet's table
 --     RefusedKeeps        what is refused changes nothing
 --     ShortOfWhole        15 comes only for a sheet that is whole, and names the first buffer that is too short
---     Agree               two results agree, buffers too
---     FitsWord            the numbers of a table that was lent stand in their parts of the word
+--     LendingAgree        two results agree, buffers too
+--     TableFitsWord       the numbers of a table that was lent stand in their parts of the word
 -- Assumes nothing.
 use mathlib.Core.Path.{_≡_}
 use mathlib.Core.List.{List}
@@ -27,13 +27,13 @@ fronts b e d r p =
     (take (r * rowBytes (editionOf (b .head))) (b .rows))
     (take (p * pairBytes) (b .pairs))
 
-pub record TableOf (s : List ℕ) (l : Slices) : Type 0 where
+pub record GivesTable (s : List ℕ) (l : Slices) : Type 0 where
   pub execution : Execution
   pub says : parse s ≡ whole execution
   pub back : tableIn l ≡ tableOf execution
 
 abbrev pub LendsTheTable : Type 0
-LendsTheTable = (s : List ℕ) (entry exit : Slices) (e d r p : ℕ) → Lending s entry (Table e d r p) exit → TableOf s (fronts exit e d r p)
+LendsTheTable = (s : List ℕ) (entry exit : Slices) (e d r p : ℕ) → Lending s entry (Table e d r p) exit → GivesTable s (fronts exit e d r p)
 
 abbrev pub RefusedKeeps : Type 0
 RefusedKeeps = (s : List ℕ) (entry exit : Slices) (n p : ℕ) → Lending s entry (Refused n p) exit → exit ≡ entry
@@ -47,8 +47,8 @@ pub record Short (s : List ℕ) (entry : Slices) (k : ℕ) : Type 0 where
 abbrev pub ShortOfWhole : Type 0
 ShortOfWhole = (s : List ℕ) (entry exit : Slices) (k : ℕ) → Lending s entry (Refused 15 k) exit → Short s entry k
 
-abbrev pub Agree : Type 0
-Agree = (s : List ℕ) (entry : Slices) (q r : Lent) (exit exit′ : Slices) → Lending s entry q exit → Lending s entry r exit′ → (q ≡ r) × (exit ≡ exit′)
+abbrev pub LendingAgree : Type 0
+LendingAgree = (s : List ℕ) (entry : Slices) (q r : Lent) (exit exit′ : Slices) → Lending s entry q exit → Lending s entry r exit′ → (q ≡ r) × (exit ≡ exit′)
 
 pub record WordOf (w e d r p : ℕ) : Type 0 where
   pub kind : w / 2 ^ 40 ≡ 14
@@ -57,5 +57,5 @@ pub record WordOf (w e d r p : ℕ) : Type 0 where
   pub rows : w / 2 ^ 12 % 2 ^ 12 ≡ r
   pub bytes : w % 2 ^ 12 ≡ d
 
-abbrev pub FitsWord : Type 0
-FitsWord = (s : List ℕ) (entry exit : Slices) (e d r p : ℕ) → Lending s entry (Table e d r p) exit → WordOf (lentWord (Table e d r p)) e d r p
+abbrev pub TableFitsWord : Type 0
+TableFitsWord = (s : List ℕ) (entry exit : Slices) (e d r p : ℕ) → Lending s entry (Table e d r p) exit → WordOf (lentWord (Table e d r p)) e d r p

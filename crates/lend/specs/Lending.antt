@@ -3,7 +3,7 @@
 -- Laws: proofs/LendingLaws.antt.
 --     five head events bytes rows pairs     five buffers
 --     shortOf l b                           the first buffer of b that is shorter than its slice of l; `buffers` where none is
---     over piece entry                      a buffer from whose first byte on a piece was put
+--     overlaid piece entry                  a buffer from whose first byte on a piece was put
 --     lentBy, heldBy                        the answer and the buffers, by what the sheet says and what is lent
 --     Lending s entry r exit                r is the answer for the sheet s, and the buffers hold its table
 -- Assumes nothing.
@@ -52,11 +52,11 @@ lentBy (refused n p) b = Refused n p
 lentBy (whole x) b = answerOf x (shortOf (slicesOf (tableOf x)) b)
 
 -- 02 §2: "bytes after the sheet are unchanged"
-abbrev pub over : List ℕ → List ℕ → List ℕ
-over piece entry = piece ++ drop (length piece) entry
+abbrev pub overlaid : List ℕ → List ℕ → List ℕ
+overlaid piece entry = piece ++ drop (length piece) entry
 
 abbrev pub filledBy : Slices → Slices → Slices
-filledBy l b = five (over (l .head) (b .head)) (over (l .events) (b .events)) (over (l .bytes) (b .bytes)) (over (l .rows) (b .rows)) (over (l .pairs) (b .pairs))
+filledBy l b = five (overlaid (l .head) (b .head)) (overlaid (l .events) (b .events)) (overlaid (l .bytes) (b .bytes)) (overlaid (l .rows) (b .rows)) (overlaid (l .pairs) (b .pairs))
 
 -- 02 §2: "A refused call leaves the buffer unchanged"
 abbrev pub heldBy : Parsed → Slices → Slices

@@ -17,7 +17,7 @@ use Rattle.encode.specs.Lent.{descriptionBytes}
 use Rattle.encode.specs.Lend.{Slices, slicesOf, tableIn}
 use Rattle.lend.specs.declared.Lent.{Lent}
 use Rattle.lend.specs.declared.Lent.the-variants.{Refused, Table}
-use Rattle.lend.specs.Lending.{five, buffers, shortOf, Lending}
+use Rattle.lend.specs.Lending.{five, noBuffer, shortOf, Lending}
 use Rattle.lend.specs.Word.{lentWord}
 
 -- what a caller lends further: of each buffer as much as the answer and the head's edition say
@@ -42,7 +42,7 @@ pub record Short (s : List ℕ) (entry : Slices) (k : ℕ) : Type 0 where
   pub execution : Execution
   pub says : parse s ≡ whole execution
   pub names : k ≡ shortOf (slicesOf (tableOf execution)) entry
-  pub one : k < buffers
+  pub one : k < noBuffer
 
 abbrev pub ShortOfWhole : Type 0
 ShortOfWhole = (s : List ℕ) (entry exit : Slices) (k : ℕ) → Lending s entry (Refused 15 k) exit → Short s entry k

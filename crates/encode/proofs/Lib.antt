@@ -4,3 +4,4 @@ pub mod WrittenBack
 pub mod ReadBack
 pub mod IndexLaws
 pub mod PlaceLaws
+pub mod TearLaws

@@ -1,6 +1,7 @@
 -- The laws of specs/Place.antt: the index that `indexOf` counts is the one that a refusal names.
 --     same-fuel, same-field, same-run     the fields of a tag that stand before a place
 --     index-run                           of an entry of a list: its index
+--     index-below : an index fits where the sheet's length does
 --     refused-at : parse (encode t) ≡ refused n p → Names t n p (indexOf (encode t) n p)
 -- Assumes nothing.
 use mathlib.Core.Path.{_≡_, refl, sym, ap, _∙_, subst}
@@ -20,6 +21,7 @@ use Rattle.format.specs.Execution.{noRow, noPair}
 use Rattle.format.specs.Field.{tagAt, nextAt}
 use Rattle.parse.specs.Parse.{refused, placeOf, parse}
 use Rattle.parse.proofs.ParseLaws.{too-long as long}
+use Rattle.parse.proofs.RefusalLaws.{refusal-low}
 use Rattle.encode.specs.Table.{Description, Table}
 use Rattle.encode.specs.Encode.{field, headValue, eventValue, rowValue, pairValue, run, encode}
 use Rattle.encode.specs.Index.{sameFrom, noEntry, indexOf}
@@ -217,3 +219,22 @@ refused-at t n p e = go (ltb maxBytes (length (encode t))) refl
         let c : 0 ≡ p = cc in
         subst (λ (m : ℕ). Names t m p (indexOf (encode t) m p)) a (subst (λ (r : ℕ). Names t 1 r 0) c too-long)
     go false q = let w = refused-stands t n p e in subst (Names t n p) (sym (short-index t (ltb-false _ _ q) n p (w .0) (w .1))) (w .1)
+
+-- no more fields than there is fuel
+same-most : (s : List ℕ) (p k q : ℕ) → sameFrom s k q p ≤ k
+unfolding sameFrom
+same-most s p zero q = omega arith
+same-most s p (suc k) q = go (ltb q p) refl (eqb (tagAt s q) (tagAt s p)) refl (same-most s p k (nextAt s q))
+  where
+    go : (c : Bool) → ltb q p ≡ c → (d : Bool) → eqb (tagAt s q) (tagAt s p) ≡ d → sameFrom s k (nextAt s q) p ≤ k → sameFrom s (suc k) q p ≤ suc k
+    go false e d f ih = let z = same-end s k q p (ltb-false _ _ e) in omega arith
+    go true e true f ih = let z = same-next s k q p (ltb-true _ _ e) ∙ ap (λ (b : Bool). cond b 1 0 + sameFrom s k (nextAt s q) p) f in omega arith
+    go true e false f ih = let z = same-next s k q p (ltb-true _ _ e) ∙ ap (λ (b : Bool). cond b 1 0 + sameFrom s k (nextAt s q) p) f in omega arith
+
+pub index-below : (s : List ℕ) (n p : ℕ) → parse s ≡ refused n p → indexOf s n p ≤ maxBytes + 1
+unfolding indexOf
+index-below s n p e = go (noEntry n) (same-most s p (suc p) 0) (refusal-low s n p e .1)
+  where
+    go : (b : Bool) → sameFrom s (suc p) 0 p ≤ suc p → p ≤ maxBytes → cond b 0 (sameFrom s (suc p) 0 p) ≤ maxBytes + 1
+    go true m h = omega arith
+    go false m h = omega arith

@@ -2,7 +2,7 @@
 use mathlib.Core.Path.{refl}
 use native.Mathlib.Omega.{arith}
 use Rattle.answer.proofs.ReadLaws.{kind-in, number-in, place-in}
-use Rattle.lend.specs.Demands.{LendsTheTable, RefusedKeeps, ShortOfWhole, Agree, FitsWord, RefusedWord}
+use Rattle.lend.specs.Demands.{LendsTheTable, RefusedKeeps, ShortOfWhole, LendingAgree, TableFitsWord, RefusedWord}
 use Rattle.lend.specs.declared.Lent.the-variants.{Refused, Table}
 use Rattle.lend.proofs.LendingLaws.{lending-unique}
 use Rattle.lend.proofs.WaysLaws.{lending-ways, refused-kept, refused-small, short-whole, table-back, table-fits}
@@ -16,10 +16,10 @@ refused-keeps s entry exit n p w = refused-kept (lending-ways s entry exit (Refu
 pub short-of-whole : ShortOfWhole
 short-of-whole s entry exit k w = short-whole (lending-ways s entry exit (Refused 15 k) w) refl
 
-pub agree : Agree
+pub agree : LendingAgree
 agree s entry q r exit exit′ a b = lending-unique a b
 
-pub fits-word : FitsWord
+pub fits-word : TableFitsWord
 fits-word s entry exit e d r p w = table-fits (lending-ways s entry exit (Table e d r p) w) refl
 
 pub refused-word : RefusedWord

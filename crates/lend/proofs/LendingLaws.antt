@@ -26,18 +26,18 @@ use Rattle.puts.proofs.PutLaws.{puts-put}
 use Rattle.slices.specs.Sliced.{eventsSlice, dataSlice, rowsSlice, pairsSlice, dataSum}
 use Rattle.lend.specs.declared.Lent.{Lent}
 use Rattle.lend.specs.declared.Lent.the-variants.{Refused, Table}
-use Rattle.lend.specs.Lending.{five, buffers, shortBy, shortOf, lentBy, heldBy, over, filledBy, Lending}
+use Rattle.lend.specs.Lending.{five, noBuffer, shortBy, shortOf, lentBy, heldBy, overlaid, filledBy, Lending}
 use Rattle.lend.proofs.WholeLaws.{slices-whole, events-long, data-long, rows-long, pairs-long}
 
 pub lending-unique : {s : List ℕ} {entry exit exit′ : Slices} {q r : Lent} → Lending s entry q exit → Lending s entry r exit′ → (q ≡ r) × (exit ≡ exit′)
-lending-unique a b = (a .answer ∙ sym (b .answer), a .held ∙ sym (b .held))
+lending-unique a b = (a .answer ∙ sym (b .answer), a .buffers ∙ sym (b .buffers))
 
 pub lending-refused : {s : List ℕ} {n p : ℕ} (entry : Slices) → parse s ≡ refused n p → Lending s entry (Refused n p) entry
-lending-refused entry e = record { answer = sym (ap (λ q. lentBy q entry) e); held = sym (ap (λ q. heldBy q entry) e) }
+lending-refused entry e = record { answer = sym (ap (λ q. lentBy q entry) e); buffers = sym (ap (λ q. heldBy q entry) e) }
 
 -- where there is room, what was put is a front
-over-put : {piece e f : List ℕ} {n : ℕ} → length piece ≤ length e → Puts piece 0 n e f → f ≡ over piece e
-over-put {piece} {e} {f} {n} h a =
+overlaid-put : {piece e f : List ℕ} {n : ℕ} → length piece ≤ length e → Puts piece 0 n e f → f ≡ overlaid piece e
+overlaid-put {piece} {e} {f} {n} h a =
     let q = puts-put {p = piece} {e = e} {f = f} {at = 0} {m = n} (omega arith) a in
     let k : n ≡ length piece = let b = q .after in omega arith in
     sym (take-append-drop n f) ∙ ap (λ (l : List ℕ). l ++ drop n f) (q .written) ∙ ap (λ (l : List ℕ). piece ++ l) (q .rest) ∙ ap (λ (m : ℕ). piece ++ drop m e) k
@@ -57,11 +57,11 @@ pub record Roomy (l b : Slices) : Type 0 where
   pub pairs : length (l .pairs) ≤ length (b .pairs)
 
 -- a test that does not give its small number has failed
-passed : (c : Bool) (k m : ℕ) → k < buffers → buffers ≤ cond c k m → (c ≡ false) × (buffers ≤ m)
+passed : (c : Bool) (k m : ℕ) → k < noBuffer → noBuffer ≤ cond c k m → (c ≡ false) × (noBuffer ≤ m)
 passed true k m h b = absurd (omega arith)
 passed false k m h b = (refl, b)
 
-pub roomy : (l b : Slices) → buffers ≤ shortOf l b → Roomy l b
+pub roomy : (l b : Slices) → noBuffer ≤ shortOf l b → Roomy l b
 unfolding shortBy
 roomy l b h =
     let p = passed (ltb (length (b .head)) (length (l .head))) 0 _ (omega arith) h in
@@ -96,12 +96,12 @@ module _ (s : List ℕ) (x : Counts) (at : List ℕ) (w : HandedWhole s x at) (e
   short-is : {k : ℕ} → Asked k → k ≡ shortOf l entry
   short-is e = short-drawn e ∙ ap (λ (m : Slices). shortOf m entry) (sym (slices-whole s x at w))
 
-  pub lending-short : {k : ℕ} → Asked k → k < buffers → Lending s entry (Refused 15 k) entry
+  pub lending-short : {k : ℕ} → Asked k → k < noBuffer → Lending s entry (Refused 15 k) entry
   lending-short {k} e h =
-      let t : ltb (shortOf l entry) buffers ≡ true = ap (λ (m : ℕ). ltb m buffers) (sym (short-is e)) ∙ lt-ltb _ _ h in
-      record { answer = rw (w .says, t, ← (short-is e)) refl; held = simp (w .says, t) }
+      let t : ltb (shortOf l entry) noBuffer ≡ true = ap (λ (m : ℕ). ltb m noBuffer) (sym (short-is e)) ∙ lt-ltb _ _ h in
+      record { answer = rw (w .says, t, ← (short-is e)) refl; buffers = simp (w .says, t) }
 
-  module _ {d k : ℕ} (c : d ≡ dataSum s x at) (e : Asked k) (h : buffers ≤ k) where
+  module _ {d k : ℕ} (c : d ≡ dataSum s x at) (e : Asked k) (h : noBuffer ≤ k) where
     room : Roomy drawn entry
     room = let q = short-drawn e in roomy drawn entry (omega arith)
 
@@ -113,11 +113,11 @@ module _ (s : List ℕ) (x : Counts) (at : List ℕ) (w : HandedWhole s x at) (e
         → Puts (pairsSlice s x) 0 j (entry .pairs) (exit .pairs)
         → Lending s entry (Table (x .events) d (x .rows) (x .pairs)) exit
     lending-filled {exit} p q r t u =
-        let z : ltb (shortOf l entry) buffers ≡ false = ap (λ (m : ℕ). ltb m buffers) (sym (short-is e)) ∙ le-ltb _ _ h in
+        let z : ltb (shortOf l entry) noBuffer ≡ false = ap (λ (m : ℕ). ltb m noBuffer) (sym (short-is e)) ∙ le-ltb _ _ h in
         record {
           answer = rw (w .says, z) (table-same (sym (events-count s (x .head .edition) (x .events) at fit)) (c ∙ sym bytes-long) (sym (rows-count s (x .head .edition) (x .«rows_at») (x .rows))) (sym (pairs-count s (x .«pairs_at») (x .pairs))));
-          held =
+          buffers =
               simp (w .says, z)
-              (five-same (over-put (room .head) p) (over-put (room .events) q) (over-put (room .bytes) r) (over-put (room .rows) t) (over-put (room .pairs) u)
+              (five-same (overlaid-put (room .head) p) (overlaid-put (room .events) q) (overlaid-put (room .bytes) r) (overlaid-put (room .rows) t) (overlaid-put (room .pairs) u)
               ∙ ap (λ (m : Slices). filledBy m entry) (sym (slices-whole s x at w)));
         }

@@ -27,7 +27,7 @@ use Rattle.encode.specs.Lend.{Slices, eight, slicesOf, tableIn}
 use Rattle.encode.proofs.LendLaws.{flat-length, lends}
 use Rattle.lend.specs.declared.Lent.{Lent}
 use Rattle.lend.specs.declared.Lent.the-variants.{Refused, Table}
-use Rattle.lend.specs.Lending.{five, buffers, shortOf, filledBy, heldBy, lentBy, Lending}
+use Rattle.lend.specs.Lending.{five, noBuffer, shortOf, filledBy, heldBy, lentBy, Lending}
 use Rattle.lend.specs.Word.{lentWord}
 use Rattle.lend.specs.Demands.{fronts, TableOf, Short, WordOf}
 use Rattle.lend.proofs.WordLaws.{few-counts, word-parts}
@@ -37,21 +37,21 @@ counted x = Table (length (x .events)) (length (slicesOf (tableOf x) .bytes)) (l
 
 pub data Ways (s : List ℕ) (entry : Slices) : Lent → Slices → Type 0 where
   unread : {n p : ℕ} → parse s ≡ refused n p → Ways s entry (Refused n p) entry
-  short : (x : Execution) → parse s ≡ whole x → shortOf (slicesOf (tableOf x)) entry < buffers → Ways s entry (Refused 15 (shortOf (slicesOf (tableOf x)) entry)) entry
+  short : (x : Execution) → parse s ≡ whole x → shortOf (slicesOf (tableOf x)) entry < noBuffer → Ways s entry (Refused 15 (shortOf (slicesOf (tableOf x)) entry)) entry
   filled : (x : Execution) → parse s ≡ whole x → Ways s entry (counted x) (filledBy (slicesOf (tableOf x)) entry)
 
 pub lending-ways : (s : List ℕ) (entry exit : Slices) (r : Lent) → Lending s entry r exit → Ways s entry r exit
 lending-ways s entry exit r w =
-    subst (λ (q : Lent). Ways s entry q exit) (sym (w .answer)) (subst (λ (b : Slices). Ways s entry (lentBy (parse s) entry) b) (sym (w .held)) (go (parse s) refl))
+    subst (λ (q : Lent). Ways s entry q exit) (sym (w .answer)) (subst (λ (b : Slices). Ways s entry (lentBy (parse s) entry) b) (sym (w .buffers)) (go (parse s) refl))
   where
-    by : (x : Execution) → parse s ≡ whole x → (b : Bool) → ltb (shortOf (slicesOf (tableOf x)) entry) buffers ≡ b
+    by : (x : Execution) → parse s ≡ whole x → (b : Bool) → ltb (shortOf (slicesOf (tableOf x)) entry) noBuffer ≡ b
         → Ways s entry (cond b (Refused 15 (shortOf (slicesOf (tableOf x)) entry)) (counted x)) (cond b entry (filledBy (slicesOf (tableOf x)) entry))
     by x e true t = Ways.short x e (ltb-true _ _ t)
     by x e false t = Ways.filled x e
 
     go : (q : Parsed) → parse s ≡ q → Ways s entry (lentBy q entry) (heldBy q entry)
     go (refused n p) e = Ways.unread e
-    go (whole x) e = by x e (ltb (shortOf (slicesOf (tableOf x)) entry) buffers) refl
+    go (whole x) e = by x e (ltb (shortOf (slicesOf (tableOf x)) entry) noBuffer) refl
 
 refused-table : {A : Type 0} {n q e d r p : ℕ} → Refused n q ≡ Table e d r p → A
 refused-table e = let z : _≡_ {A = ℕ} 0 1 = cc in absurd (omega arith)

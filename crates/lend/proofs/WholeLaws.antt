@@ -29,7 +29,7 @@ use Rattle.encode.specs.Encode.{headValue, rowValue, pairValue}
 use Rattle.encode.specs.Lent.{descriptionBytes}
 use Rattle.encode.specs.Lend.{eight, dataOf, flat, slicesOf}
 use Rattle.encode.proofs.LendLaws.{flat-length}
-use Rattle.slices.specs.Sliced.{eightAt, dataAt, eventsSlice, dataSlice, rowsSlice, pairsSlice, sum, sizeAt, dataSum}
+use Rattle.slices.specs.Sliced.{eightAt, dataBytesAt, eventsSlice, dataSlice, rowsSlice, pairsSlice, sum, sizeAt, dataSum}
 use Rattle.lend.specs.Lending.{five}
 
 -- ---- one event
@@ -51,7 +51,7 @@ module _ (s : List ℕ) (h : Head) (p : ℕ) (w : WellEvent h (eventAt s (h .edi
   is : w .access ≡ accessOf (h .edition) v
   is = let q = w .one-access in cc
 
-  data-here : seenOf (h .edition) v ++ writtenOf (h .edition) v ≡ dataAt s (h .edition) p
+  data-here : seenOf (h .edition) v ++ writtenOf (h .edition) v ≡ dataBytesAt s (h .edition) p
   data-here =
       data-whole (h .edition) v (subst (λ (a : Access). 1 ≤ a .shape .kind) is (w .kind .0)) (subst (λ (a : Access). a .shape .kind ≤ 4) is (w .kind .1))
       (subst (λ (a : Access). a .shape .kind ≡ 4 → a .shape .width ≡ 0) is (λ k. w .marker k .2))
@@ -67,7 +67,7 @@ module _ (s : List ℕ) (h : Head) (p : ℕ) (w : WellEvent h (eventAt s (h .edi
   unfolding describe
   eight-here = rw size-here refl
 
-  bytes-here : dataOf (describe (eventAt s (h .edition) p)) ≡ dataAt s (h .edition) p
+  bytes-here : dataOf (describe (eventAt s (h .edition) p)) ≡ dataBytesAt s (h .edition) p
   unfolding describe
   bytes-here = data-here
 
@@ -90,20 +90,20 @@ module _ (s : List ℕ) (h : Head) where
       ap (λ (m : List ℕ). m ++ flat eight (each describe (map (eventAt s (h .edition)) l))) (eight-here s h p (first p l g))
       ∙ ap (λ (m : List ℕ). eightAt s (h .edition) p ++ m) (events-flat l (later p l g))
 
-  data-flat : (l : List ℕ) → Good l → flat dataOf (each describe (map (eventAt s (h .edition)) l)) ≡ flat (dataAt s (h .edition)) l
+  data-flat : (l : List ℕ) → Good l → flat dataOf (each describe (map (eventAt s (h .edition)) l)) ≡ flat (dataBytesAt s (h .edition)) l
   unfolding flat each
   data-flat [] g = refl
   data-flat (p ∷ l) g =
       ap (λ (m : List ℕ). m ++ flat dataOf (each describe (map (eventAt s (h .edition)) l))) (bytes-here s h p (first p l g))
-      ∙ ap (λ (m : List ℕ). dataAt s (h .edition) p ++ m) (data-flat l (later p l g))
+      ∙ ap (λ (m : List ℕ). dataBytesAt s (h .edition) p ++ m) (data-flat l (later p l g))
 
-  data-sum : (l : List ℕ) → Good l → length (flat (dataAt s (h .edition)) l) ≡ sum (sizeAt s (h .edition)) l
+  data-sum : (l : List ℕ) → Good l → length (flat (dataBytesAt s (h .edition)) l) ≡ sum (sizeAt s (h .edition)) l
   unfolding flat sum
   data-sum [] g = refl
   data-sum (p ∷ l) g =
       let w = first p l g in
-      let a = length-append (dataAt s (h .edition) p) (flat (dataAt s (h .edition)) l) in
-      let b : length (dataAt s (h .edition) p) ≡ sizeAt s (h .edition) p = ap length (sym (data-here s h p w)) ∙ size-here s h p w in
+      let a = length-append (dataBytesAt s (h .edition) p) (flat (dataBytesAt s (h .edition)) l) in
+      let b : length (dataBytesAt s (h .edition) p) ≡ sizeAt s (h .edition) p = ap length (sym (data-here s h p w)) ∙ size-here s h p w in
       let c = data-sum l (later p l g) in
       omega arith
 

@@ -2,8 +2,8 @@
 --     LendsTheTable       the fronts of the buffers lend the sheet's table
 --     RefusedKeeps        what is refused changes nothing
 --     ShortOfWhole        15 comes only for a sheet that is whole, and names the first buffer that is too short
---     Agree               two results agree, buffers too
---     FitsWord            the numbers of a table that was lent stand in their parts of the word
+--     LendingAgree        two results agree, buffers too
+--     TableFitsWord       the numbers of a table that was lent stand in their parts of the word
 --     RefusedWord         so do kind, number and place of a refusal
 -- Assumes nothing.
 use mathlib.Core.Path.{_≡_}
@@ -19,7 +19,7 @@ use Rattle.encode.specs.Lent.{descriptionBytes}
 use Rattle.encode.specs.Lend.{Slices, slicesOf, tableIn}
 use Rattle.lend.specs.declared.Lent.{Lent}
 use Rattle.lend.specs.declared.Lent.the-variants.{Refused, Table}
-use Rattle.lend.specs.Lending.{five, buffers, shortOf, Lending}
+use Rattle.lend.specs.Lending.{five, noBuffer, shortOf, Lending}
 use Rattle.lend.specs.Word.{lentWord}
 
 -- what a caller lends further: of each buffer as much as the answer and the head's edition say
@@ -44,13 +44,13 @@ pub record Short (s : List ℕ) (entry : Slices) (k : ℕ) : Type 0 where
   pub execution : Execution
   pub says : parse s ≡ whole execution
   pub names : k ≡ shortOf (slicesOf (tableOf execution)) entry
-  pub one : k < buffers
+  pub one : k < noBuffer
 
 abbrev pub ShortOfWhole : Type 0
 ShortOfWhole = (s : List ℕ) (entry exit : Slices) (k : ℕ) → Lending s entry (Refused 15 k) exit → Short s entry k
 
-abbrev pub Agree : Type 0
-Agree = (s : List ℕ) (entry : Slices) (q r : Lent) (exit exit′ : Slices) → Lending s entry q exit → Lending s entry r exit′ → (q ≡ r) × (exit ≡ exit′)
+abbrev pub LendingAgree : Type 0
+LendingAgree = (s : List ℕ) (entry : Slices) (q r : Lent) (exit exit′ : Slices) → Lending s entry q exit → Lending s entry r exit′ → (q ≡ r) × (exit ≡ exit′)
 
 pub record WordOf (w e d r p : ℕ) : Type 0 where
   pub kind : w / 2 ^ 40 ≡ 14
@@ -59,8 +59,8 @@ pub record WordOf (w e d r p : ℕ) : Type 0 where
   pub rows : w / 2 ^ 12 % 2 ^ 12 ≡ r
   pub bytes : w % 2 ^ 12 ≡ d
 
-abbrev pub FitsWord : Type 0
-FitsWord = (s : List ℕ) (entry exit : Slices) (e d r p : ℕ) → Lending s entry (Table e d r p) exit → WordOf (lentWord (Table e d r p)) e d r p
+abbrev pub TableFitsWord : Type 0
+TableFitsWord = (s : List ℕ) (entry exit : Slices) (e d r p : ℕ) → Lending s entry (Table e d r p) exit → WordOf (lentWord (Table e d r p)) e d r p
 
 abbrev pub RefusedWord : Type 0
 RefusedWord = (s : List ℕ) (entry exit : Slices) (n p : ℕ) → Lending s entry (Refused n p) exit

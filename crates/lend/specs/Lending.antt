@@ -2,8 +2,8 @@
 -- old sheets. `Lent` is the source's own enum: Refused with number and place, Table with the numbers of events, data bytes, rows and pairs.
 -- Laws: proofs/LendingLaws.antt.
 --     five head events bytes rows pairs     five buffers
---     shortOf l b                           the first buffer of b that is shorter than its slice of l; `buffers` where none is
---     over piece entry                      a buffer from whose first byte on a piece was put
+--     shortOf l b                           the first buffer of b that is shorter than its slice of l; `noBuffer` where none is
+--     overlaid piece entry                  a buffer from whose first byte on a piece was put
 --     lentBy, heldBy                        the answer and the buffers, by what the sheet says and what is lent
 --     Lending s entry r exit                r is the answer for the sheet s, and the buffers hold its table
 -- Assumes nothing.
@@ -23,9 +23,9 @@ use Rattle.lend.specs.declared.Lent.the-variants.{Refused, Table}
 abbrev pub five : List ℕ → List ℕ → List ℕ → List ℕ → List ℕ → Slices
 five head events bytes rows pairs = record { head = head; events = events; bytes = bytes; rows = rows; pairs = pairs }
 
--- the number of buffers, which is no buffer's
-abbrev pub buffers : ℕ
-buffers = 5
+-- the number that is no buffer's
+abbrev pub noBuffer : ℕ
+noBuffer = 5
 
 -- the bytes that are asked for, then those that are lent: 0 head, 1 events, 2 data, 3 rows, 4 pairs
 unfoldable pub shortBy : ℕ → ℕ → ℕ → ℕ → ℕ → ℕ → ℕ → ℕ → ℕ → ℕ → ℕ
@@ -34,7 +34,7 @@ shortBy h e d r p head events bytes rows pairs =
     (cond (ltb events e) 1
     (cond (ltb bytes d) 2
     (cond (ltb rows r) 3
-    (cond (ltb pairs p) 4 buffers))))
+    (cond (ltb pairs p) 4 noBuffer))))
 
 abbrev pub shortOf : Slices → Slices → ℕ
 shortOf l b =
@@ -44,7 +44,7 @@ shortOf l b =
 -- 02 §2: "15 .. if the buffer is shorter than the sheet": here the place is the buffer's number
 abbrev pub answerOf : Execution → ℕ → Lent
 answerOf x k =
-    cond (ltb k buffers) (Refused 15 k)
+    cond (ltb k noBuffer) (Refused 15 k)
     (Table (length (x .events)) (length (slicesOf (tableOf x) .bytes)) (length (x .rows)) (length (x .pairs)))
 
 abbrev pub lentBy : Parsed → Slices → Lent
@@ -52,17 +52,17 @@ lentBy (refused n p) b = Refused n p
 lentBy (whole x) b = answerOf x (shortOf (slicesOf (tableOf x)) b)
 
 -- 02 §2: "bytes after the sheet are unchanged"
-abbrev pub over : List ℕ → List ℕ → List ℕ
-over piece entry = piece ++ drop (length piece) entry
+abbrev pub overlaid : List ℕ → List ℕ → List ℕ
+overlaid piece entry = piece ++ drop (length piece) entry
 
 abbrev pub filledBy : Slices → Slices → Slices
-filledBy l b = five (over (l .head) (b .head)) (over (l .events) (b .events)) (over (l .bytes) (b .bytes)) (over (l .rows) (b .rows)) (over (l .pairs) (b .pairs))
+filledBy l b = five (overlaid (l .head) (b .head)) (overlaid (l .events) (b .events)) (overlaid (l .bytes) (b .bytes)) (overlaid (l .rows) (b .rows)) (overlaid (l .pairs) (b .pairs))
 
 -- 02 §2: "A refused call leaves the buffer unchanged"
 abbrev pub heldBy : Parsed → Slices → Slices
 heldBy (refused n p) b = b
-heldBy (whole x) b = cond (ltb (shortOf (slicesOf (tableOf x)) b) buffers) b (filledBy (slicesOf (tableOf x)) b)
+heldBy (whole x) b = cond (ltb (shortOf (slicesOf (tableOf x)) b) noBuffer) b (filledBy (slicesOf (tableOf x)) b)
 
 pub record Lending (s : List ℕ) (entry : Slices) (r : Lent) (exit : Slices) : Type 0 where
   pub answer : r ≡ lentBy (parse s) entry
-  pub held : exit ≡ heldBy (parse s) entry
+  pub buffers : exit ≡ heldBy (parse s) entry

@@ -21,10 +21,10 @@ pub enum Lent {
 // The bytes of an event's description, its data apart.
 const EVENT: usize = 8;
 
-// The number of buffers, which is no buffer's.
-const BUFFERS: u8 = 5;
+// The number that is no buffer's.
+const NO_BUFFER: u8 = 5;
 
-// The first buffer that is too short for a table of these counts and so many bytes of data; BUFFERS where each has room.
+// The first buffer that is too short for a table of these counts and so many bytes of data; NO_BUFFER where each has room.
 fn short_of(
     x: Counts,
     sum: u32,
@@ -52,7 +52,7 @@ fn short_of(
     if pairs < x.pairs as usize * PAIR_BYTES as usize {
         return 4;
     }
-    BUFFERS
+    NO_BUFFER
 }
 
 // Of a sheet that was read whole.
@@ -79,7 +79,7 @@ fn lend_whole(
         rows.len(),
         pairs.len(),
     );
-    if k < BUFFERS {
+    if k < NO_BUFFER {
         return Lent::Refused(15, k as u32);
     }
     slices::put_head(head, x.head);

@@ -1,10 +1,10 @@
 -- The slices of a table as a sheet's counts and places give them, whatever the sheet is. Where the reader has accepted it, they are the slices of the
 -- table of what it describes (crates/lend/proofs/WholeLaws.antt). Laws: proofs/SlicedLaws.antt.
---     eightAt s edition p                             the eight bytes of the event at place p
---     dataAt s edition p                              its data
+--     eightBy, eightAt s edition p                    the eight bytes of an event, of the one at place p
+--     dataBytesAt, sizeAt s edition p                 its data, and how many bytes its shape says that it has
 --     eventsSlice, dataSlice, rowsSlice, pairsSlice   the slices
---     dataSum s x at                                  the bytes of data that the events say that they have
---     Counted s x at r                                r is their number
+--     sum f l, dataSum s x at                         the bytes of data that all events say that they have
+--     DataCounted s x at r                            r is their number
 -- Assumes nothing.
 use mathlib.Core.Path.{_≡_}
 use mathlib.Core.List.{List, [], _∷_}
@@ -25,14 +25,14 @@ eightBy agent a = agent ∷ a .kind ∷ a .mode ∷ a .start ∷ a .width ∷ a 
 abbrev pub eightAt : List ℕ → ℕ → ℕ → List ℕ
 eightAt s edition p = eightBy (agentOf (restAt s p)) (shapeOf edition (restAt s p))
 
-abbrev pub dataAt : List ℕ → ℕ → ℕ → List ℕ
-dataAt s edition p = take (dataBytes (shapeOf edition (restAt s p))) (drop (eventBytes edition) (restAt s p))
+abbrev pub dataBytesAt : List ℕ → ℕ → ℕ → List ℕ
+dataBytesAt s edition p = take (dataBytes (shapeOf edition (restAt s p))) (drop (eventBytes edition) (restAt s p))
 
 abbrev pub eventsSlice : List ℕ → Counts → List ℕ → List ℕ
 eventsSlice s x at = flat (eightAt s (x .head .edition)) (take (x .events) at)
 
 abbrev pub dataSlice : List ℕ → Counts → List ℕ → List ℕ
-dataSlice s x at = flat (dataAt s (x .head .edition)) (take (x .events) at)
+dataSlice s x at = flat (dataBytesAt s (x .head .edition)) (take (x .events) at)
 
 abbrev pub rowsSlice : List ℕ → Counts → List ℕ
 rowsSlice s x = flat (rowValue (x .head .edition)) (rowsIn s x)
@@ -52,6 +52,6 @@ abbrev pub dataSum : List ℕ → Counts → List ℕ → ℕ
 dataSum s x at = sum (sizeAt s (x .head .edition)) (take (x .events) at)
 
 -- twice a byte, at most, for each event
-pub record Counted (s : List ℕ) (x : Counts) (at : List ℕ) (r : ℕ) : Type 0 where
+pub record DataCounted (s : List ℕ) (x : Counts) (at : List ℕ) (r : ℕ) : Type 0 where
   pub is : r ≡ dataSum s x at
   pub few : r ≤ x .events * 510

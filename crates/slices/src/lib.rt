@@ -7,7 +7,7 @@ ghost use mathlib.Core.Path.{_≡_};
 ghost use lib.ListN.{take, drop};
 ghost use Rattle.encode.specs.Encode.{headValue};
 ghost use Rattle.puts.specs.Put.{Puts};
-ghost use Rattle.slices.specs.Sliced.{eightAt, dataAt, eventsSlice, dataSlice, rowsSlice, pairsSlice, Counted};
+ghost use Rattle.slices.specs.Sliced.{eightAt, dataBytesAt, eventsSlice, dataSlice, rowsSlice, pairsSlice, DataCounted};
 
 // The bytes of a head.
 pub fn put_head(out: &mut [u8], h: Head) -> usize
@@ -69,7 +69,7 @@ fn part(v: &[u8], start: usize, n: usize) -> &[u8]
 
 // The data of the event at p, as a part of the sheet.
 fn data_at(s: &[u8], edition: u8, p: u16) -> &[u8]
-    ensures { λ r. ⌜ now r ≡ dataAt (now (s .entry)) edition p ⌝ }
+    ensures { λ r. ⌜ now r ≡ dataBytesAt (now (s .entry)) edition p ⌝ }
 {
     let n = sizes::data_bytes(entries::shape_at(s, edition, p));
     let v = field::rest_at(s, p as u32);
@@ -93,7 +93,7 @@ pub fn put_data(out: &mut [u8], s: &[u8], x: Counts, at: &[u16]) -> usize
 
 // How many bytes of data the events say that they have.
 pub fn data_count(s: &[u8], x: Counts, at: &[u16]) -> u32
-    ensures { λ r. ⌜ Counted (now (s .entry)) x (now (at .entry)) r ⌝ }
+    ensures { λ r. ⌜ DataCounted (now (s .entry)) x (now (at .entry)) r ⌝ }
 {
     let edition = x.head.edition;
     let n = entries::count(x, at);

@@ -52,20 +52,23 @@ loop-less c = omega arith
 
 loop-again : tie.Need-loop-again Inv-loop μ-loop
 loop-again c =
+    let a = c .before .before .before .before .before .before .before .before .args in
+    let size = sizeAt (now (a .s)) (a .x .head .edition) in
     let b = c .before .before .before .before .loop .inv .1 in
-    let m = sum-more (sizeAt (now (c .before .before .before .before .before .before .before .before .args .s)) (c .before .before .before .before .before .before .before .before .args .x .head .edition)) (now (c .before .before .before .before .before .before .before .before .args .at)) (c .before .before .before .before .loop .e) (omega arith) in
+    let m = sum-more size (now (a .at)) (c .before .before .before .before .loop .e) (omega arith) in
     let q = c .before .before .before .before .loop .inv .2 in
-    let d : c .data-bytes .result ≡ sizeAt (now (c .before .before .before .before .before .before .before .before .args .s)) (c .before .before .before .before .before .before .before .before .args .x .head .edition) (getD (now (c .before .before .before .before .before .before .before .before .args .at)) (c .before .before .before .before .loop .e) 0) = c .data-bytes .ensures ∙ ap dataBytes (c .before .shape-at .ensures) in
+    let d : c .data-bytes .result ≡ size (getD (now (a .at)) (c .before .before .before .before .loop .e) 0) = c .data-bytes .ensures ∙ ap dataBytes (c .before .shape-at .ensures) in
     let f : c .data-bytes .result ≤ 510 = rw (c .data-bytes .ensures) (data-few (c .before .shape-at .result) (omega arith)) in
     let g = c .before .before .before .before .loop .inv .3 in
-    (omega arith, b, (omega arith), omega arith)
+    (omega arith, b, omega arith, omega arith)
 
 returns : tie.Need-returns Inv-loop μ-loop
 returns c =
+    let a = c .before .before .before .before .before .args in
     let e : c .before .loop .e ≡ c .before .before .count .result = let i = c .before .loop .inv .0 in omega arith in
     let z = c .before .before .count .ensures in
     let g = c .before .loop .inv .3 in
-    record { is = c .before .loop .inv .2 ∙ sum-all (sizeAt (now (c .before .before .before .before .before .args .s)) (c .before .before .before .before .before .args .x .head .edition)) (now (c .before .before .before .before .before .args .at)) (c .before .before .before .before .before .args .x .events) (c .before .loop .e) (e ∙ c .before .before .count .ensures); few = omega arith }
+    record { is = c .before .loop .inv .2 ∙ sum-all (sizeAt (now (a .s)) (a .x .head .edition)) (now (a .at)) (a .x .events) (c .before .loop .e) (e ∙ c .before .before .count .ensures); few = omega arith }
 
 pub data-count-spec : {M : Type 1} → statement M
 data-count-spec =

@@ -44,13 +44,19 @@ loop-less : tie.Need-loop-less Inv-loop μ-loop
 loop-less c = omega arith
 
 loop-again : tie.Need-loop-again Inv-loop μ-loop
-loop-again c = let b = c .before .before .before .before .before .before .loop .inv .1 in (omega arith, b, rw (flat-more (eightAt (now (c .before .before .before .before .before .before .before .before .before .before .before .args .s)) (c .before .before .before .before .before .before .before .before .before .before .before .args .x .head .edition)) (now (c .before .before .before .before .before .before .before .before .before .before .before .args .at)) (c .before .before .before .before .before .before .loop .e) (omega arith)) (puts-then (c .before .before .before .before .before .before .loop .inv .2) (c .before .before .put-event .ensures)))
+loop-again c =
+    let a = c .before .before .before .before .before .before .before .before .before .before .before .args in
+    let b = c .before .before .before .before .before .before .loop .inv .1 in
+    (omega arith, b, rw (flat-more (eightAt (now (a .s)) (a .x .head .edition)) (now (a .at)) (c .before .before .before .before .before .before .loop .e) (omega arith)) (puts-then (c .before .before .before .before .before .before .loop .inv .2) (c .before .before .put-event .ensures)))
 
 same-length : tie.Need-same-length Inv-loop μ-loop
 same-length c = c .before .loop .inv .2 .size
 
 returns : tie.Need-returns Inv-loop μ-loop
-returns c = let e : c .before .loop .e ≡ c .before .before .count .result = let i = c .before .loop .inv .0 in omega arith in rw (flat-all (eightAt (now (c .before .before .before .before .before .before .args .s)) (c .before .before .before .before .before .before .args .x .head .edition)) (now (c .before .before .before .before .before .before .args .at)) (c .before .before .before .before .before .before .args .x .events) (c .before .loop .e) (e ∙ c .before .before .count .ensures)) at (c .before .loop .inv .2)
+returns c =
+    let a = c .before .before .before .before .before .before .args in
+    let e : c .before .loop .e ≡ c .before .before .count .result = let i = c .before .loop .inv .0 in omega arith in
+    rw (flat-all (eightAt (now (a .s)) (a .x .head .edition)) (now (a .at)) (a .x .events) (c .before .loop .e) (e ∙ c .before .before .count .ensures)) at (c .before .loop .inv .2)
 
 pub put-events-spec : {M : Type 1} → statement M
 put-events-spec =

@@ -1,6 +1,7 @@
 -- The laws of specs/Read.antt: what is read from a word is the answer that it was made of. Assumes nothing.
 --     names-in, pair-in     names and pairs, from their four places
 --     four-in               the four names of a word
+--     kind-in, number-in, place-in     the parts of a word
 --     answer-in             answerIn (packed x) ≡ x, where no name is 255
 --     packed-unique         so two answers with one word are one answer
 use mathlib.Core.Path.{_≡_, refl, sym, ap, _∙_}
@@ -62,13 +63,13 @@ four-in k n f h =
 -- ---- the answer
 
 module _ (k n r : ℕ) (small : k < 256) (a : n < 256) (b : r < 2 ^ 32) where
-  kind-in : kindIn (word k n r) ≡ k
+  pub kind-in : kindIn (word k n r) ≡ k
   kind-in = omega arith
 
-  number-in : numberIn (word k n r) ≡ n
+  pub number-in : numberIn (word k n r) ≡ n
   number-in = omega arith
 
-  place-in : placeIn (word k n r) ≡ r
+  pub place-in : placeIn (word k n r) ≡ r
   place-in = omega arith
 
 pub answer-in : (x : Answer) → Fits 255 x → answerIn (packed x) ≡ x

@@ -120,8 +120,8 @@ fn four_bytes(f: Four) -> u32
         + byte_of(fourth) as u32
 }
 
-// kind * 2^40 + number * 2^32 + rest
-fn word(kind: u8, number: u8, rest: u32) -> u64
+// kind * 2^40 + number * 2^32 + rest: the word of every entry
+pub fn word(kind: u8, number: u8, rest: u32) -> u64
     ensures { λ r. ⌜ r ≡ Word·word kind number rest ⌝ }
 {
     kind as u64 * 1099511627776 + number as u64 * 4294967296 + rest as u64

@@ -159,8 +159,8 @@ module _ (h : Head) (events : List Event) (v : List ℕ) (e : eventFault h event
   pub event-clean-back : eventValue (h .edition) (describe (eventOf (h .edition) v)) ≡ v
   unfolding describe kindByte eventBytes
   event-clean-back =
-      let t = tearOf (getD v 1 0) (getD v 2 0) (getD v 3 0) (getD v 4 0) in
-      rw (eq-eqb t t refl, data-back) (sym (five v five-long))
+      let g : describe (eventOf (h .edition) v) .tear ≡ tearOf (getD v 1 0) (getD v 2 0) (getD v 3 0) (getD v 4 0) = refl in
+      rw (eq-eqb _ _ g, data-back) (sym (five v five-long))
 
   -- and is short
   pub event-short : length v < 256

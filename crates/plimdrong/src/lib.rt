@@ -3,10 +3,26 @@
 // a 64-bit word: kind * 2^40 + number * 2^32 + 32 bits. Whoever takes a word apart masks the kind to eight bits: bits 48 and up will carry a
 // region. Names and words stay once they have landed (docs/DECISIONS.md, Exports).
 ghost use Rattle.plimdrong.specs.JudgedWord.{JudgedWord};
+ghost use Rattle.plimdrong.specs.WrittenWord.{WrittenWord};
 
 #[no_mangle]
 pub extern "C" fn plimdrong_judge(sheet: &[u8], scratch: &mut [u8], order: &mut [u8]) -> u64
     ensures { λ r. ⌜ JudgedWord (now (sheet .entry)) (now (scratch .entry)) (now (order .entry)) r (now (scratch .exit)) (now (order .exit)) ⌝ }
 {
     answer::pack(judge::judge(sheet, scratch, order))
+}
+
+// Writes the sheet of a lent table into `out` (02 §2).
+#[no_mangle]
+pub extern "C" fn plimdrong_write(
+    head: &[u8],
+    events: &[u8],
+    bytes: &[u8],
+    rows: &[u8],
+    pairs: &[u8],
+    out: &mut [u8],
+) -> u64
+    ensures { λ r. ⌜ WrittenWord (record { head = now (head .entry); events = now (events .entry); bytes = now (bytes .entry); rows = now (rows .entry); pairs = now (pairs .entry) }) (now (out .entry)) r (now (out .exit)) ⌝ }
+{
+    writer::pack(writer::write(head, events, bytes, rows, pairs, out))
 }

@@ -5,13 +5,17 @@
 --     put-unique    what is put decides the place after it and the buffer
 --     puts-none puts-one puts-over puts-then puts-more puts-all puts-unique    the same whatever the room
 --     puts-put      where there is room
+--     puts-most, puts-full     the place after a piece: no further than its bytes, and the buffer's end where they reach it
+--     put-front     a piece at the front of a buffer
 -- Assumes nothing.
 use mathlib.Core.Path.{_≡_, refl, sym, ap, _∙_}
-use mathlib.Core.Bool.{Bool, cond}
+use mathlib.Core.Logic.{_⊎_, inl, inr}
+use mathlib.Core.Bool.{Bool, true, false, cond}
 use mathlib.Core.List.{List, [], _∷_, _++_, append-assoc, append-nil}
 use Prim.Native.Nat.{ℕ, _+_, _≤_, _<_}
 use native.Mathlib.Omega.{arith}
-use borrow.Author.Tests.{lt-ltb, le-ltb}
+use borrow.Author.Tests.{lt-ltb, le-ltb, ltb-true, ltb-false}
+use lib.Dec.{ltb}
 use native.Mathlib.Numerals.{add-one}
 use lib.ListN.{length, getD, take, drop, set, length-append, length-set, take-append-drop}
 use lib.Seq.{take-all, take-suc, take-suc-set, drop-set-lt, drop-drop, set-out}
@@ -104,3 +108,44 @@ laid-put (b ∷ p) at l h =
 
 pub puts-put : {p e f : List ℕ} {at m : ℕ} → at + length p ≤ length e → Puts p at m e f → Put p at m e f
 puts-put {p} {e} {f} {at} {m} h a = rw (a .after, a .bytes) (laid-put p at e h)
+
+-- ---- how far a piece reaches
+
+step-most : (size at : ℕ) → step size at ≤ at + 1
+step-most size at = go (ltb at size)
+  where
+    go : (b : Bool) → cond b (at + 1) at ≤ at + 1
+    go true = omega arith
+    go false = omega arith
+
+step-within : (size at : ℕ) → at ≤ size → (step size at ≤ size) × (size ≤ step size at ⊎ (step size at ≡ at + 1))
+step-within size at h = go (ltb at size) refl
+  where
+    go : (b : Bool) → ltb at size ≡ b → (cond b (at + 1) at ≤ size) × (size ≤ cond b (at + 1) at ⊎ (cond b (at + 1) at ≡ at + 1))
+    go true e = let q = ltb-true at size e in (omega arith, inr refl)
+    go false e = let q = ltb-false at size e in (h, inl q)
+
+ending-most : (p : List ℕ) (at size : ℕ) → ending p at size ≤ at + length p
+unfolding ending
+ending-most [] at size = omega arith
+ending-most (b ∷ p) at size = let i = ending-most p (step size at) size in let q = step-most size at in omega arith
+
+ending-full : (p : List ℕ) (at size : ℕ) → at ≤ size → size ≤ at + length p → size ≤ ending p at size
+unfolding ending
+ending-full [] at size h k = omega arith
+ending-full (b ∷ p) at size h k = let w = step-within size at h in go (w .1) (ending-full p (step size at) size (w .0))
+  where
+    go : size ≤ step size at ⊎ (step size at ≡ at + 1) → (size ≤ step size at + length p → size ≤ ending p (step size at) size) → size ≤ ending p (step size at) size
+    go (inl q) ih = ih (omega arith)
+    go (inr q) ih = ih (omega arith)
+
+pub puts-most : {p e f : List ℕ} {at m : ℕ} → Puts p at m e f → m ≤ at + length p
+puts-most {p} {e} {f} {at} {m} a = let i = ending-most p at (length e) in let q = a .after in omega arith
+
+pub puts-full : {p e f : List ℕ} {at m : ℕ} → Puts p at m e f → at ≤ length e → length e ≤ at + length p → length e ≤ m
+puts-full {p} {e} {f} {at} {m} a h k = let i = ending-full p at (length e) h k in let q = a .after in omega arith
+
+pub put-front : {p e f : List ℕ} {m : ℕ} → Put p 0 m e f → (m ≡ length p) × (f ≡ p ++ drop (length p) e)
+put-front {p} {e} {f} {m} a =
+    let n : m ≡ length p = (let q = a .after in omega arith) in
+    (n, sym (take-append-drop m f) ∙ rw (a .written, a .rest) (ap (λ (k : ℕ). p ++ drop k e) n))

@@ -1,0 +1,5 @@
+pub mod WholeLaws
+pub mod LendingLaws
+pub mod WordLaws
+pub mod WaysLaws
+pub mod Demands

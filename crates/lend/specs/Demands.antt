@@ -1,0 +1,61 @@
+-- What is claimed of `lend`, for all sheets and buffers. Proved in proofs/Demands.antt.
+--     LendsTheTable       the fronts of the buffers lend the sheet's table
+--     RefusedKeeps        what is refused changes nothing
+--     ShortOfWhole        15 comes only for a sheet that is whole, and names the first buffer that is too short
+--     Agree               two results agree, buffers too
+--     FitsWord            the numbers of a table that was lent stand in their parts of the word
+-- Assumes nothing.
+use mathlib.Core.Path.{_≡_}
+use mathlib.Core.List.{List}
+use Prim.Native.Nat.{ℕ, _*_, _^_, _/_, _%_, _<_}
+use lib.ListN.{take}
+use Rattle.format.specs.Execution.{Execution}
+use Rattle.format.specs.Layout.{editionOf, headBytes, rowBytes, pairBytes}
+use Rattle.parse.specs.Parse.{whole, parse}
+use Rattle.encode.specs.Table.{tableOf}
+use Rattle.encode.specs.Lent.{descriptionBytes}
+use Rattle.encode.specs.Lend.{Slices, slicesOf, tableIn}
+use Rattle.lend.specs.declared.Lent.{Lent}
+use Rattle.lend.specs.declared.Lent.the-variants.{Refused, Table}
+use Rattle.lend.specs.Lending.{five, buffers, shortOf, Lending}
+use Rattle.lend.specs.Word.{lentWord}
+
+-- what a caller lends further: of each buffer as much as the answer and the head's edition say
+abbrev pub fronts : Slices → ℕ → ℕ → ℕ → ℕ → Slices
+fronts b e d r p =
+    five (take (headBytes (editionOf (b .head))) (b .head)) (take (e * descriptionBytes) (b .events)) (take d (b .bytes))
+    (take (r * rowBytes (editionOf (b .head))) (b .rows))
+    (take (p * pairBytes) (b .pairs))
+
+pub record TableOf (s : List ℕ) (l : Slices) : Type 0 where
+  pub execution : Execution
+  pub says : parse s ≡ whole execution
+  pub back : tableIn l ≡ tableOf execution
+
+abbrev pub LendsTheTable : Type 0
+LendsTheTable = (s : List ℕ) (entry exit : Slices) (e d r p : ℕ) → Lending s entry (Table e d r p) exit → TableOf s (fronts exit e d r p)
+
+abbrev pub RefusedKeeps : Type 0
+RefusedKeeps = (s : List ℕ) (entry exit : Slices) (n p : ℕ) → Lending s entry (Refused n p) exit → exit ≡ entry
+
+pub record Short (s : List ℕ) (entry : Slices) (k : ℕ) : Type 0 where
+  pub execution : Execution
+  pub says : parse s ≡ whole execution
+  pub names : k ≡ shortOf (slicesOf (tableOf execution)) entry
+  pub one : k < buffers
+
+abbrev pub ShortOfWhole : Type 0
+ShortOfWhole = (s : List ℕ) (entry exit : Slices) (k : ℕ) → Lending s entry (Refused 15 k) exit → Short s entry k
+
+abbrev pub Agree : Type 0
+Agree = (s : List ℕ) (entry : Slices) (q r : Lent) (exit exit′ : Slices) → Lending s entry q exit → Lending s entry r exit′ → (q ≡ r) × (exit ≡ exit′)
+
+pub record WordOf (w e d r p : ℕ) : Type 0 where
+  pub kind : w / 2 ^ 40 ≡ 14
+  pub events : w / 2 ^ 32 % 2 ^ 8 ≡ e
+  pub pairs : w / 2 ^ 24 % 2 ^ 8 ≡ p
+  pub rows : w / 2 ^ 12 % 2 ^ 12 ≡ r
+  pub bytes : w % 2 ^ 12 ≡ d
+
+abbrev pub FitsWord : Type 0
+FitsWord = (s : List ℕ) (entry exit : Slices) (e d r p : ℕ) → Lending s entry (Table e d r p) exit → WordOf (lentWord (Table e d r p)) e d r p

@@ -1,0 +1,4 @@
+pub mod CountedLaws
+pub mod WrittenLaws
+pub mod Demands
+pub mod Examples

@@ -1,0 +1,4 @@
+pub mod Written
+pub mod Word
+pub mod Demands
+pub mod Examples

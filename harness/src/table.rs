@@ -6,6 +6,11 @@ use crate::{MAX_TABLE_DATA, MAX_TABLE_EVENTS, MAX_TABLE_HEAD, MAX_TABLE_PAIRS, M
 use std::fmt;
 
 /// Numbers of an event's kind.
+///
+/// ```
+/// use plimdrong::{kind, Event};
+/// assert_eq!(Event::marker(1).kind, kind::MARKER);
+/// ```
 pub mod kind {
     pub const READ: u8 = 1;
     pub const WRITE: u8 = 2;
@@ -15,6 +20,11 @@ pub mod kind {
 }
 
 /// Numbers of an event's mode.
+///
+/// ```
+/// use plimdrong::{mode, Event};
+/// assert_eq!(Event::init(0, &[0]).mode, mode::INIT);
+/// ```
 pub mod mode {
     pub const INIT: u8 = 0;
     pub const UNORDERED: u8 = 1;
@@ -50,6 +60,11 @@ pub struct Table {
 }
 
 /// The head. The default is edition 1 with no agent and no memory, which the writer refuses.
+///
+/// ```
+/// use plimdrong::Head;
+/// assert_eq!(Head { agents: 2, memory: 8, ..Head::default() }.to_string(), "head 1 2 8");
+/// ```
 #[derive(Clone, Copy, Debug, PartialEq, Eq)]
 pub struct Head {
     pub edition: u8,
@@ -87,6 +102,11 @@ pub struct Event {
 }
 
 /// A byte that was read, and who wrote it.
+///
+/// ```
+/// use plimdrong::Row;
+/// assert_eq!(Row { reader: 3, address: 0, writer: 1 }.to_string(), "row 3 0 1");
+/// ```
 #[derive(Clone, Copy, Debug, PartialEq, Eq)]
 pub struct Row {
     pub reader: u8,
@@ -95,6 +115,11 @@ pub struct Row {
 }
 
 /// Two markers, of which the first synchronises with the second.
+///
+/// ```
+/// use plimdrong::Pair;
+/// assert_eq!(Pair { first: 2, second: 5 }.to_string(), "pair 2 5");
+/// ```
 #[derive(Clone, Copy, Debug, PartialEq, Eq)]
 pub struct Pair {
     pub first: u8,
@@ -430,6 +455,19 @@ pub enum Entry {
 }
 
 /// Why a table is no sheet. Its `Display` names the entry, says what is wrong with it and what to do.
+///
+/// ```
+/// use plimdrong::{Entry, Table};
+///
+/// let wrong = Table::parse("head 1 9 1").unwrap().sheet().unwrap_err();
+/// assert_eq!((wrong.number, wrong.entry, wrong.index), (5, Entry::Head, 0));
+/// assert_eq!(wrong.refusal().meaning, "The head's content is wrong.");
+/// assert_eq!(
+///     wrong.to_string(),
+///     "the head (head 1 9 1): The head's content is wrong. The edition is 1, agents are 1 to 8, the memory has 1 to 64 \
+///      bytes."
+/// );
+/// ```
 #[derive(Clone, Debug, PartialEq, Eq)]
 pub struct Unwritable {
     /// The reader's number: 1, 4 to 11 or 14.

@@ -112,6 +112,12 @@ impl Table {
     }
 }
 
+/// [`Table::parse`].
+///
+/// ```
+/// let table: plimdrong::Table = "head 1 1 1".parse().unwrap();
+/// assert_eq!(table.to_string(), "head 1 1 1\n");
+/// ```
 impl FromStr for Table {
     type Err = ParseError;
     fn from_str(text: &str) -> Result<Table, ParseError> {

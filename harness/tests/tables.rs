@@ -1,120 +1,35 @@
 //! The writer and the way back against the second program: random tables, whole and spoiled in every way, random and
-//! damaged sheets, buffers of every kind; stored sheets there and back; tables as text.
+//! damaged sheets, buffers of every kind; stored sheets there and back; tables as text. More of them, with any seed: `cargo
+//! run --release --example compare -- --tables --seed S --count N`.
 
-use plimdrong::{judge, table_with, write_with, Answer, Buffers, Entry, Event, Head, Pair, Row, Slices, Table};
-use second::random::{case, table_buffers, table_case, Rng};
-use second::table::{Lent, Tabled, Written};
+mod compare_tables;
+
+use compare_tables::{slices, table_of};
+use plimdrong::{judge, table_with, write_with, Answer, Buffers, Entry, Event, Head, Table};
+use second::random::{case, table_case};
 use second::text::to_text;
-use std::collections::BTreeMap;
 
 #[allow(dead_code)]
 #[path = "../examples/table.rs"]
 mod example;
 
-/// Bytes before and after a lent buffer, which must be left alone.
-const AROUND: usize = 16;
-
-/// A buffer of `length` random bytes, with more around it.
-fn buffer(rng: &mut Rng, length: usize) -> Vec<u8> {
-    (0..length + 2 * AROUND).map(|_| rng.byte()).collect()
+/// The count of each answer is part of the log, and each must have come.
+fn told(what: &str, hits: compare_tables::Hits) {
+    println!("{what}, answers and buffers as the second program says\n{hits}");
+    let missing = hits.missing();
+    assert!(missing.is_empty(), "never came: {}", missing.join(", "));
 }
 
-fn inner(b: &mut [u8]) -> &mut [u8] {
-    let end = b.len() - AROUND;
-    &mut b[AROUND..end]
-}
-
-fn slices(l: &[Vec<u8>; 5]) -> Slices<'_> {
-    Slices { head: &l[0], events: &l[1], data: &l[2], rows: &l[3], pairs: &l[4] }
-}
-
-fn lent(l: &[Vec<u8>; 5]) -> Lent<'_> {
-    Lent { head: &l[0], events: &l[1], data: &l[2], rows: &l[3], pairs: &l[4] }
-}
-
-/// The table that slices lend, if each event's data is there as it says.
-fn table_of(l: &[Vec<u8>; 5]) -> Option<Table> {
-    let said = |i: usize| l[0].get(i).copied().unwrap_or(0);
-    let mut rest = &l[2][..];
-    let mut events = vec![];
-    for e in l[1].chunks_exact(8) {
-        let (own, behind) = rest.split_at_checked(e[6] as usize * 256 + e[7] as usize)?;
-        rest = behind;
-        let [agent, kind, mode, start, width, tear] = e[..6] else { return None };
-        events.push(Event { agent, kind, mode, start, width, tear, data: own.to_vec() });
-    }
-    Some(Table {
-        head: Head { edition: said(0), agents: said(1), memory: said(2) },
-        events,
-        rows: l[3].chunks_exact(3).map(|r| Row { reader: r[0], address: r[1], writer: r[2] }).collect(),
-        pairs: l[4].chunks_exact(2).map(|p| Pair { first: p[0], second: p[1] }).collect(),
-    })
-}
-
-fn tell(what: &str, hits: &BTreeMap<(u8, usize), u64>, must: &[(u8, usize)]) {
-    for ((number, at), times) in hits {
-        match number {
-            0 => println!("{what:<28}{times:>10}"),
-            15 => println!("refused 15 at {at:<14}{times:>10}"),
-            _ => println!("refused {number:<20}{times:>10}"),
-        }
-    }
-    let never: Vec<_> = must.iter().filter(|m| !hits.contains_key(m)).collect();
-    assert!(never.is_empty(), "{what}: never came: {never:?}");
-}
-
-/// Answer and whole buffer, as the second program says; and what the crate makes of the same table.
 #[test]
 fn random_tables() {
     let count = if cfg!(debug_assertions) { 20_000 } else { 300_000 };
-    let mut hits = BTreeMap::new();
-    let mut rng = Rng::new(21);
-    for index in 0..count {
-        let c = table_case(1, index, [5, 6, 6, 7, 6, 9, 6, 6, 5, 16][index as usize % 10]);
-        let mut told = buffer(&mut rng, c.out);
-        let mut found = told.clone();
-        let expected = second::table::write(lent(&c.lists), inner(&mut told));
-        let word = write_with(slices(&c.lists), inner(&mut found));
-        assert_eq!(word, expected.word(), "{}: {expected:?} {:?}, lent {}", c.name, c.lists, c.out);
-        assert_eq!(found, told, "{}: {expected:?} {:?}, lent {}", c.name, c.lists, c.out);
-        let hit = match expected {
-            Written::Written { .. } => (0, 0),
-            Written::Refused { number: 15, index } => (15, index),
-            Written::Refused { number, .. } => (number, 0),
-        };
-        *hits.entry(hit).or_default() += 1;
-        if let Some(table) = table_of(&c.lists) {
-            through_the_crate(&c.name, &table, &expected, &found);
-        }
-    }
-    let must: Vec<(u8, usize)> = [0, 1, 4, 5, 6, 7, 8, 9, 10, 11, 14, 15].map(|n| (n, 0)).to_vec();
-    tell("written", &hits, &must);
+    told(&format!("{count} random tables written"), compare_tables::random_tables(1, count));
 }
 
-fn through_the_crate(name: &str, table: &Table, expected: &Written, found: &[u8]) {
-    match (table.sheet(), expected) {
-        (Ok(sheet), Written::Written { length }) => {
-            assert_eq!(sheet, found[AROUND..AROUND + length], "{name}");
-            assert_eq!(Table::of(&sheet).as_ref(), Ok(table), "{name}");
-        }
-        // its own buffer is never too short
-        (Ok(sheet), Written::Refused { number: 15, .. }) => {
-            assert_eq!(Table::of(&sheet).as_ref(), Ok(table), "{name}")
-        }
-        (Err(wrong), Written::Refused { number, index }) => {
-            assert_eq!((wrong.number, wrong.index), (*number, *index), "{name}");
-            let begins = match wrong.entry {
-                Entry::Table => "the table: ".to_string(),
-                Entry::Head => format!("the head ({}", table.head),
-                Entry::Event => format!("event {index} ("),
-                Entry::Row => format!("row {index} ({}", table.rows[*index]),
-                Entry::Pair => format!("pair {index} ({}", table.pairs[*index]),
-            };
-            assert!(wrong.to_string().starts_with(&begins), "{name}: {wrong}");
-            assert!(wrong.to_string().contains(wrong.refusal().remedy), "{name}: {wrong}");
-        }
-        (sheet, _) => panic!("{name}: {sheet:?}, not {expected:?}"),
-    }
+#[test]
+fn tables_of_random_sheets() {
+    let count = if cfg!(debug_assertions) { 20_000 } else { 300_000 };
+    told(&format!("tables of {count} random sheets"), compare_tables::tables_of_random_sheets(3, count));
 }
 
 /// The text of a table gives the table back, whatever is wrong with it.
@@ -140,34 +55,6 @@ fn text_of_random_tables() {
         }
     }
     assert!(short > count / 3 && long > count / 50, "{short} {long}");
-}
-
-/// Words and buffers of the way back, as the second program says.
-#[test]
-fn tables_of_random_sheets() {
-    let count = if cfg!(debug_assertions) { 20_000 } else { 300_000 };
-    let mut hits = BTreeMap::new();
-    let mut rng = Rng::new(22);
-    for index in 0..count {
-        let c = case(3, index, [5, 6, 6, 7, 6, 9, 6, 6, 5, 16][index as usize % 10]);
-        let lengths = table_buffers(&mut rng, &c.sheet);
-        let mut told = lengths.map(|n| buffer(&mut rng, n));
-        let mut found = told.clone();
-        let expected = second::table::table(&c.sheet, told.each_mut().map(|b| inner(b)));
-        let [head, events, data, rows, pairs] = found.each_mut().map(|b| inner(b));
-        let word = table_with(&c.sheet, Buffers { head, events, data, rows, pairs });
-        assert_eq!(word, expected.word(), "{}: {expected:?}, lent {lengths:?}\n{}", c.name, to_text(&c.sheet));
-        assert_eq!(found, told, "{}: {expected:?}, lent {lengths:?}\n{}", c.name, to_text(&c.sheet));
-        let hit = match expected {
-            Tabled::Tabled { .. } => (0, 0),
-            Tabled::Refused { number: 15, place } => (15, place),
-            Tabled::Refused { number, .. } => (number, 0),
-        };
-        *hits.entry(hit).or_default() += 1;
-    }
-    let refused = (1..=11).chain([14]).map(|n| (n, 0));
-    let must: Vec<(u8, usize)> = refused.chain((0..5).map(|i| (15, i))).chain([(0, 0)]).collect();
-    tell("table", &hits, &must);
 }
 
 /// A sheet to its table and back, byte for byte, and to its text and back; a refused one as the judge refuses it.

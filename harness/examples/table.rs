@@ -40,7 +40,8 @@ pub fn run(arguments: &[String]) -> Result<Vec<u8>, (i32, String)> {
         }
         [file] if !file.starts_with("--") => {
             let bytes = read(file)?;
-            let text = std::str::from_utf8(&bytes).map_err(|_| {
+            // a sheet has zero bytes, a text has none
+            let text = std::str::from_utf8(&bytes).ok().filter(|text| !text.contains('\0')).ok_or_else(|| {
                 (1, format!("{file}: this is no text: `table --text {file}` is the way from a sheet to its text"))
             })?;
             let (table, lines) = Table::parse_with_lines(text)

@@ -140,6 +140,13 @@ const PAIR: &str = "write `pair MARKER MARKER`, as `pair 2 5`";
 const EVENT: &str = "write `event AGENT KIND MODE START WIDTH TEAR: DATA`, as `event 1 2 1 0 2 1: 00 11`";
 const DATA: &str = "write each data byte as two hexadecimal digits, with spaces between, as `01 ff`";
 
+/// A word in quotation marks, as much of it as fits a line, without control characters.
+fn quoted(word: &str) -> String {
+    let front: String = word.chars().take(24).flat_map(char::escape_debug).collect();
+    let more = if word.chars().nth(24).is_some() { ".." } else { "" };
+    format!("'{front}{more}'")
+}
+
 /// One line that is not empty.
 fn take(entry: &str, line: usize, table: &mut Table, lines: &mut Lines) -> Result<(), Fault> {
     let (first, rest) = entry.split_once(char::is_whitespace).unwrap_or((entry, ""));
@@ -168,7 +175,7 @@ fn take(entry: &str, line: usize, table: &mut Table, lines: &mut Lines) -> Resul
                 // leading zeros are no matter, and neither is a number that no event can have
                 if first.trim_start_matches('0') != next.to_string().trim_start_matches('0') {
                     let remedy = "number events from 0 as they stand, or leave their numbers out";
-                    return fault(format!("this is event {next}, not {first}"), remedy);
+                    return fault(format!("this is event {next}, not {}", quoted(first).trim_matches('\'')), remedy);
                 }
                 rest.trim()
             } else {
@@ -184,9 +191,9 @@ fn take(entry: &str, line: usize, table: &mut Table, lines: &mut Lines) -> Resul
 fn number(word: &str) -> Result<u8, Fault> {
     const BYTE: &str = "write a number from 0 to 255 in decimal digits";
     if word.is_empty() || !word.bytes().all(|b| b.is_ascii_digit()) {
-        return fault(format!("'{word}' is no number"), BYTE);
+        return fault(format!("{} is no number", quoted(word)), BYTE);
     }
-    word.parse().or_else(|_| fault(format!("{word} is over 255"), BYTE))
+    word.parse().or_else(|_| fault(format!("{} is over 255", quoted(word).trim_matches('\'')), BYTE))
 }
 
 /// Exactly N numbers.
@@ -199,7 +206,7 @@ fn numbers<const N: usize>(words: &str, what: &str, remedy: &str) -> Result<[u8;
 fn hex(words: &str) -> Result<Vec<u8>, Fault> {
     let byte = |word: &str| match word.len() == 2 && word.bytes().all(|b| b.is_ascii_hexdigit()) {
         true => Ok(u8::from_str_radix(word, 16).expect("two hexadecimal digits")),
-        false => fault(format!("'{word}' is no data byte"), DATA),
+        false => fault(format!("{} is no data byte", quoted(word)), DATA),
     };
     words.split_whitespace().map(byte).collect()
 }
@@ -235,7 +242,7 @@ fn parsed_event(entry: &str) -> Result<Event, Fault> {
         Some(digits) if !digits.is_empty() && digits.bytes().all(|b| b.is_ascii_digit()) => number(digits)?,
         _ => {
             let remedy = "begin with head, row, pair, init, event, or an agent as A1; # begins a comment";
-            return fault(format!("'{first}' begins no line"), remedy);
+            return fault(format!("{} begins no line", quoted(first)), remedy);
         }
     };
     let example = format!("A{agent} write sc at 0: 01");
@@ -243,7 +250,7 @@ fn parsed_event(entry: &str) -> Result<Event, Fault> {
         return fault(format!("nothing follows {first}"), format!("write an event, as `{example}`"));
     };
     let Some(kind) = named(&KINDS, kind) else {
-        return fault(format!("'{kind}' is no kind"), "write read, write, rmw or marker");
+        return fault(format!("{} is no kind", quoted(kind)), "write read, write, rmw or marker");
     };
     if kind == kind::MARKER {
         if !rest.is_empty() || data.is_some() {
@@ -255,7 +262,7 @@ fn parsed_event(entry: &str) -> Result<Event, Fault> {
         return fault("there is no mode", format!("write unordered or sc behind the kind, as `{example}`"));
     };
     let Some(mode) = named(&MODES, mode) else {
-        return fault(format!("'{mode}' is no mode"), "write unordered or sc");
+        return fault(format!("{} is no mode", quoted(mode)), "write unordered or sc");
     };
     let start = start(rest, &example)?;
     let bytes = some_data(data, kind)?;
@@ -271,9 +278,11 @@ fn start(words: &[&str], example: &str) -> Result<u8, Fault> {
         [] => fault("there is no start", format!("write at and the first address, as `{example}`")),
         ["at"] => fault("no start follows at", format!("write the first address, as `{example}`")),
         ["at", _, more, ..] => {
-            fault(format!("'{more}' follows the start"), format!("write a colon there, as `{example}`"))
+            fault(format!("{} follows the start", quoted(more)), format!("write a colon there, as `{example}`"))
         }
-        [other, ..] => fault(format!("'{other}' stands where at is expected"), format!("write it as `{example}`")),
+        [other, ..] => {
+            fault(format!("{} stands where at is expected", quoted(other)), format!("write it as `{example}`"))
+        }
     }
 }
 
@@ -437,6 +446,10 @@ mod tests {
                 Ok(table) => panic!("{text}: {table:?}"),
             }
         }
+        let noise = Table::parse("\u{1}\0\u{3}").unwrap_err().wrong;
+        assert_eq!(noise, "'\\u{1}\\0\\u{3}' begins no line");
+        let word = Table::parse(&"x".repeat(1000)).unwrap_err().wrong;
+        assert_eq!(word, format!("'{}..' begins no line", "x".repeat(24)));
         let long = format!("init at 0:{}", " 00".repeat(256));
         let wrong = Table::parse(&long).unwrap_err().to_string();
         assert_eq!(wrong, "line 1: 256 bytes are over 255: write fewer; the line `event ..` can say more");

@@ -216,6 +216,7 @@ fn the_example_program() {
     let head = file("head.txt", b"# a head alone\nhead 1 1 1\n");
     says(&[&head], 1, format!("{head}: the table: No event reads,"));
     says(&[&file("sheet.txt", &[1, 0, 3, 255])], 1, format!("{dir}/sheet.txt: this is no text: `table --text "));
+    says(&[first], 1, format!("{first}: this is no text: `table --text "));
     let cut = file("cut.sheet", &std::fs::read(first).unwrap()[..24]);
     says(&["--text", &cut], 1, format!("{cut}: refused 11 at 15: A byte that was read has no row."));
     says(&["none.txt"], 2, "none.txt: ".to_string());

@@ -21,7 +21,7 @@ use Rattle.format.specs.Execution.{noRow, noPair}
 use Rattle.format.specs.Field.{tagAt, nextAt}
 use Rattle.parse.specs.Parse.{refused, placeOf, parse}
 use Rattle.parse.proofs.ParseLaws.{too-long as long}
-use Rattle.parse.proofs.RefusalLaws.{refusal-place}
+use Rattle.parse.proofs.RefusalLaws.{refusal-low}
 use Rattle.encode.specs.Table.{Description, Table}
 use Rattle.encode.specs.Encode.{field, headValue, eventValue, rowValue, pairValue, run, encode}
 use Rattle.encode.specs.Index.{sameFrom, noEntry, indexOf}
@@ -232,19 +232,9 @@ same-most s p (suc k) q = go (ltb q p) refl (eqb (tagAt s q) (tagAt s p)) refl (
     go true e false f ih = let z = same-next s k q p (ltb-true _ _ e) ∙ ap (λ (b : Bool). cond b 1 0 + sameFrom s k (nextAt s q) p) f in omega arith
 
 pub index-below : (s : List ℕ) (n p : ℕ) → parse s ≡ refused n p → indexOf s n p ≤ maxBytes + 1
-unfolding indexOf noEntry _or_
-index-below s n p e = go (ltb maxBytes (length s)) refl
+unfolding indexOf
+index-below s n p e = go (noEntry n) (same-most s p (suc p) 0) (refusal-low s n p e .1)
   where
-    least : (b : Bool) (k m : ℕ) → k ≤ m → cond b 0 k ≤ m
-    least true k m h = omega arith
-    least false k m h = h
-
-    go : (b : Bool) → ltb maxBytes (length s) ≡ b → indexOf s n p ≤ maxBytes + 1
-    go true q =
-        let f : refused 1 0 ≡ refused n p = sym (long s (ltb-true _ _ q)) ∙ e in
-        let a : 1 ≡ n = cc in
-        subst (λ (m : ℕ). indexOf s m p ≤ maxBytes + 1) a (omega arith)
-    go false q =
-        let l = ltb-false maxBytes (length s) q in
-        let h = refusal-place s n p e in
-        least (noEntry n) (sameFrom s (suc p) 0 p) (maxBytes + 1) (let m = same-most s p (suc p) 0 in omega arith)
+    go : (b : Bool) → sameFrom s (suc p) 0 p ≤ suc p → p ≤ maxBytes → cond b 0 (sameFrom s (suc p) 0 p) ≤ maxBytes + 1
+    go true m h = omega arith
+    go false m h = omega arith

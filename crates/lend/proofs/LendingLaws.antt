@@ -99,7 +99,7 @@ module _ (s : List ℕ) (x : Counts) (at : List ℕ) (w : HandedWhole s x at) (e
   pub lending-short : {k : ℕ} → Asked k → k < buffers → Lending s entry (Refused 15 k) entry
   lending-short {k} e h =
       let t : ltb (shortOf l entry) buffers ≡ true = ap (λ (m : ℕ). ltb m buffers) (sym (short-is e)) ∙ lt-ltb _ _ h in
-      record { answer = rw (w .says, t, ← (short-is e)) refl; held = rw (w .says, t) refl }
+      record { answer = rw (w .says, t, ← (short-is e)) refl; held = simp (w .says, t) }
 
   module _ {d k : ℕ} (c : d ≡ dataSum s x at) (e : Asked k) (h : buffers ≤ k) where
     room : Roomy drawn entry
@@ -117,7 +117,7 @@ module _ (s : List ℕ) (x : Counts) (at : List ℕ) (w : HandedWhole s x at) (e
         record {
           answer = rw (w .says, z) (table-same (sym (events-count s (x .head .edition) (x .events) at fit)) (c ∙ sym bytes-long) (sym (rows-count s (x .head .edition) (x .«rows_at») (x .rows))) (sym (pairs-count s (x .«pairs_at») (x .pairs))));
           held =
-              rw (w .says, z)
+              simp (w .says, z)
               (five-same (over-put (room .head) p) (over-put (room .events) q) (over-put (room .bytes) r) (over-put (room .rows) t) (over-put (room .pairs) u)
               ∙ ap (λ (m : Slices). filledBy m entry) (sym (slices-whole s x at w)));
         }

@@ -3,3 +3,4 @@ pub mod LendingLaws
 pub mod WordLaws
 pub mod WaysLaws
 pub mod Demands
+pub mod Examples

@@ -1,6 +1,6 @@
 -- The three ways of lending: the sheet is refused, a buffer is too short, each slice stands in its buffer. Assumes nothing.
 --     Ways, lending-ways       the ways, and that there is no other
---     refused-kept             what is refused has changed nothing
+--     refused-kept, refused-small     what is refused has changed nothing; its number and place are small
 --     short-whole              15 is of a whole sheet
 --     table-back               the fronts of filled buffers lend the table
 --     table-fits               their numbers fit the word
@@ -8,7 +8,7 @@ use mathlib.Core.Path.{_≡_, refl, sym, ap, _∙_, subst}
 use mathlib.Core.Logic.{_⊎_, inl, inr}
 use mathlib.Core.Bool.{Bool, true, false, cond}
 use mathlib.Core.List.{List}
-use Prim.Native.Nat.{ℕ, _*_, _<_, _≤_}
+use Prim.Native.Nat.{ℕ, _*_, _^_, _<_, _≤_}
 use native.Mathlib.Omega.{arith}
 use borrow.Author.Tests.{ltb-true}
 use lib.Dec.{ltb}
@@ -19,7 +19,7 @@ use Rattle.basis.proofs.ListLaws.{each-length}
 use Rattle.format.specs.Execution.{Execution}
 use Rattle.format.specs.Layout.{headBytes, rowBytes, pairBytes}
 use Rattle.parse.specs.Parse.{Parsed, refused, whole, parse}
-use Rattle.parse.proofs.RefusalLaws.{refusal-number}
+use Rattle.parse.proofs.RefusalLaws.{refusal-number, refusal-low}
 use Rattle.encode.specs.Table.{describe, tableOf}
 use Rattle.encode.specs.Encode.{rowValue, pairValue}
 use Rattle.encode.specs.Lent.{descriptionBytes}
@@ -63,6 +63,17 @@ pub refused-kept : {s : List ℕ} {entry exit : Slices} {r : Lent} {n p : ℕ} �
 refused-kept (Ways.unread e) q = refl
 refused-kept (Ways.short x e h) q = refl
 refused-kept (Ways.filled x e) q = table-refused q
+
+-- number and place are small
+pub refused-small : {s : List ℕ} {entry exit : Slices} {r : Lent} {m q : ℕ} → Ways s entry r exit → r ≡ Refused m q → (m < 256) × (q < 2 ^ 32)
+refused-small {s} {entry} {exit} {r} {m} {q} (Ways.unread {n} {p} e) f =
+    let a : n ≡ m = cc in
+    let b : p ≡ q = cc in
+    let l = refusal-low s n p e in (omega arith, omega arith)
+refused-small {s} {entry} {exit} {r} {m} {q} (Ways.short x e h) f =
+    let a : 15 ≡ m = cc in
+    let b : shortOf (slicesOf (tableOf x)) entry ≡ q = cc in (omega arith, omega arith)
+refused-small (Ways.filled x e) f = table-refused f
 
 pub short-whole : {s : List ℕ} {entry exit : Slices} {r : Lent} {k : ℕ} → Ways s entry r exit → r ≡ Refused 15 k → Short s entry k
 short-whole {s} (Ways.unread {n} {p} e) q = go (refusal-number s n p e)

@@ -4,6 +4,7 @@
 --     ShortOfWhole        15 comes only for a sheet that is whole, and names the first buffer that is too short
 --     Agree               two results agree, buffers too
 --     FitsWord            the numbers of a table that was lent stand in their parts of the word
+--     RefusedWord         so do kind, number and place of a refusal
 -- Assumes nothing.
 use mathlib.Core.Path.{_≡_}
 use mathlib.Core.List.{List}
@@ -12,6 +13,7 @@ use lib.ListN.{take}
 use Rattle.format.specs.Execution.{Execution}
 use Rattle.format.specs.Layout.{editionOf, headBytes, rowBytes, pairBytes}
 use Rattle.parse.specs.Parse.{whole, parse}
+use Rattle.answer.specs.Read.{kindIn, numberIn, placeIn}
 use Rattle.encode.specs.Table.{tableOf}
 use Rattle.encode.specs.Lent.{descriptionBytes}
 use Rattle.encode.specs.Lend.{Slices, slicesOf, tableIn}
@@ -59,3 +61,7 @@ pub record WordOf (w e d r p : ℕ) : Type 0 where
 
 abbrev pub FitsWord : Type 0
 FitsWord = (s : List ℕ) (entry exit : Slices) (e d r p : ℕ) → Lending s entry (Table e d r p) exit → WordOf (lentWord (Table e d r p)) e d r p
+
+abbrev pub RefusedWord : Type 0
+RefusedWord = (s : List ℕ) (entry exit : Slices) (n p : ℕ) → Lending s entry (Refused n p) exit
+    → (kindIn (lentWord (Refused n p)) ≡ 1) × (numberIn (lentWord (Refused n p)) ≡ n) × (placeIn (lentWord (Refused n p)) ≡ p)

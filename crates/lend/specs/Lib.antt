@@ -1,3 +1,4 @@
 pub mod Lending
 pub mod Word
 pub mod Demands
+pub mod Examples

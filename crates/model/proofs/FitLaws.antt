@@ -24,7 +24,7 @@ use Rattle.parse.specs.Parse.{refused, parse}
 use Rattle.parse.specs.Promise.{WellFormed, row}
 use Rattle.parse.proofs.ParseLaws.{too-long}
 use Rattle.parse.proofs.PromiseLaws.{promise}
-use Rattle.parse.proofs.RefusalLaws.{refusal-number, refusal-place}
+use Rattle.parse.proofs.RefusalLaws.{refusal-low}
 use Rattle.answer.specs.declared.Names.{Names}
 use Rattle.answer.specs.declared.Settled.{Settled}
 use Rattle.answer.specs.declared.Answer.{Answer}
@@ -54,11 +54,7 @@ short-fits s room places n p (order-short x d h k) = (omega arith, omega arith)
 
 module _ (n p : ℕ) where
   parsed-fits : (s : List ℕ) → parse s ≡ refused n p → (n < 256) × (p < 2 ^ 32)
-  parsed-fits s e = go (decLt maxBytes (length s))
-    where
-      go : Dec (maxBytes < length s) → (n < 256) × (p < 2 ^ 32)
-      go (yes h) = let q : refused n p ≡ refused 1 0 = sym e ∙ too-long s h in let a : n ≡ 1 = cc in let b : p ≡ 0 = cc in (omega arith, omega arith)
-      go (no h) = let b = refusal-place s n p e in (⊎-elim (λ w. omega (arith, w .1)) (λ q. omega arith) (refusal-number s n p e), omega arith)
+  parsed-fits s e = let w = refusal-low s n p e in (omega arith, omega arith)
 
   refusal-fits : (s : List ℕ) (room places : ℕ) → admitted s room places ≡ refused n p → (n < 256) × (p < 2 ^ 32)
   refusal-fits s room places e = ⊎-elim (parsed-fits s) (short-fits s room places n p) (refused-cases s room places n p e)

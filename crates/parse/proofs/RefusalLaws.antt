@@ -3,6 +3,7 @@
 --     blames-number : Blames s k n → (2 ≤ n) × (n ≤ 9)
 --     refusal-number : parse s ≡ refused n p → ((1 ≤ n) × (n ≤ 11)) ⊎ (n ≡ 14)
 --     refusal-place : parse s ≡ refused n p → p ≤ length s
+--     refusal-low : parse s ≡ refused n p → (n ≤ 14) × (p ≤ maxBytes)
 -- Assumes nothing.
 use mathlib.Core.Path.{_≡_, refl, sym, ap, _∙_, subst}
 use mathlib.Core.Logic.{_⊎_, inl, inr, ⊎-elim}
@@ -28,7 +29,7 @@ use Rattle.parse.specs.Parse.{Parsed, refused, placeOf, State, blank, fa
 use Rattle.parse.specs.Promise.{HasEvent, EachAppears}
 use Rattle.parse.specs.Described.{fieldsTaken, described, RowlessAt}
 use Rattle.parse.specs.Refusal.{stateNo, faultNo, Faultless, tagNo, Blames, Refusal, RefusedByTable}
-use Rattle.parse.proofs.ParseLaws.{Finished, headless, none-reads, absent, rowless, complete, finished, not-whole, inside, was-none, was-2, known, at-end, at-fault, at-field}
+use Rattle.parse.proofs.ParseLaws.{Finished, headless, none-reads, absent, rowless, complete, finished, not-whole, inside, was-none, was-2, known, too-long, at-end, at-fault, at-field}
 use Rattle.parse.proofs.DescribedLaws.{taken-end, taken-more}
 use Rattle.format.proofs.ExecutionLaws.{event-inside}
 use Rattle.parse.proofs.LackLaws.{OneAccess, lowest-rowless}
@@ -318,3 +319,11 @@ refusal-place s n p e = go (refusal s n p e)
     go (Refusal.none-reads l f h) = omega arith
     go (Refusal.no-event a l f d r i j h) = omega arith
     go (Refusal.no-row i l f d a u t r h) = tagged (fieldPlace s (suc i)) t
+
+-- a sheet that is too long is refused at 0
+pub refusal-low : (s : List ℕ) (n p : ℕ) → parse s ≡ refused n p → (n ≤ 14) × (p ≤ maxBytes)
+refusal-low s n p e = (⊎-elim (λ w. omega (arith, w .1)) (λ q. omega arith) (refusal-number s n p e), go (ltb maxBytes (length s)) refl)
+  where
+    go : (b : Bool) → ltb maxBytes (length s) ≡ b → p ≤ maxBytes
+    go true h = let q : refused n p ≡ refused 1 0 = sym e ∙ too-long s (ltb-true _ _ h) in let b : p ≡ 0 = cc in omega arith
+    go false h = let b = refusal-place s n p e in let l = ltb-false maxBytes (length s) h in omega arith

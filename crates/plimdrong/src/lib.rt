@@ -3,7 +3,9 @@
 // a 64-bit word: kind * 2^40 + number * 2^32 + 32 bits. Whoever takes a word apart masks the kind to eight bits: bits 48 and up will carry a
 // region. Names and words stay once they have landed (docs/DECISIONS.md, Exports).
 ghost use Rattle.plimdrong.specs.JudgedWord.{JudgedWord};
+ghost use Rattle.lend.specs.Lending.{five};
 ghost use Rattle.plimdrong.specs.WrittenWord.{WrittenWord};
+ghost use Rattle.plimdrong.specs.TableWord.{TableWord};
 
 #[no_mangle]
 pub extern "C" fn plimdrong_judge(sheet: &[u8], scratch: &mut [u8], order: &mut [u8]) -> u64
@@ -22,7 +24,22 @@ pub extern "C" fn plimdrong_write(
     pairs: &[u8],
     out: &mut [u8],
 ) -> u64
-    ensures { λ r. ⌜ WrittenWord (record { head = now (head .entry); events = now (events .entry); bytes = now (bytes .entry); rows = now (rows .entry); pairs = now (pairs .entry) }) (now (out .entry)) r (now (out .exit)) ⌝ }
+    ensures { λ r. ⌜ WrittenWord (five (now (head .entry)) (now (events .entry)) (now (bytes .entry)) (now (rows .entry)) (now (pairs .entry))) (now (out .entry)) r (now (out .exit)) ⌝ }
 {
     writer::pack(writer::write(head, events, bytes, rows, pairs, out))
+}
+
+// The table of a sheet, into lent buffers: the other way.
+#[no_mangle]
+pub extern "C" fn plimdrong_table(
+    sheet: &[u8],
+    head: &mut [u8],
+    events: &mut [u8],
+    bytes: &mut [u8],
+    rows: &mut [u8],
+    pairs: &mut [u8],
+) -> u64
+    ensures { λ r. ⌜ TableWord (now (sheet .entry)) (five (now (head .entry)) (now (events .entry)) (now (bytes .entry)) (now (rows .entry)) (now (pairs .entry))) r (five (now (head .exit)) (now (events .exit)) (now (bytes .exit)) (now (rows .exit)) (now (pairs .exit))) ⌝ }
+{
+    lend::pack(lend::lend(sheet, head, events, bytes, rows, pairs))
 }

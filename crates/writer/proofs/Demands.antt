@@ -12,7 +12,7 @@ use lib.Seq.{take-append-seam, drop-append-seam}
 use Rattle.format.specs.Limits.{maxBytes}
 use Rattle.format.specs.Execution.{Execution}
 use Rattle.parse.specs.Parse.{Parsed, refused, whole, parse}
-use Rattle.parse.proofs.RefusalLaws.{refusal-number}
+use Rattle.parse.proofs.RefusalLaws.{refusal-low}
 use Rattle.parse.proofs.WellSheetLaws.{well-accepted, accepted-well}
 use Rattle.answer.specs.Read.{kindIn, numberIn, placeIn}
 use Rattle.answer.proofs.ReadLaws.{kind-in, number-in, place-in}
@@ -142,12 +142,8 @@ told-held : (s : List ℕ) (room : ℕ) → Held (told s room)
 unfolding told
 told-held s room = go (parse s) refl
   where
-    small : (n : ℕ) → ((1 ≤ n) × (n ≤ 11)) ⊎ (n ≡ 14) → n < 256
-    small n (inl b) = omega arith
-    small n (inr q) = omega arith
-
     go : (p : Parsed) → parse s ≡ p → Held (toldBy s room p)
-    go (refused n p) e = (small n (refusal-number s n p e), let i = index-below s n p e in omega arith)
+    go (refused n p) e = let l = refusal-low s n p e in let i = index-below s n p e in (omega arith, omega arith)
     go (whole x) e = fits (ltb room (length s)) (accepted-well s x e .short)
       where
         fits : (b : Bool) → length s ≤ maxBytes → Held (cond b (Refused 15 0) (Sheet (length s)))

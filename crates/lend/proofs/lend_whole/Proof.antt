@@ -17,7 +17,7 @@ cast-t17 : tie.Need-cast-t17
 cast-t17 c = search needs
 
 returns : tie.Need-returns
-returns c = lending-short (now (c .before .before .before .before .before .before .before .before .before .before .args .s)) (c .before .before .before .before .before .before .before .before .before .before .args .x) (now (c .before .before .before .before .before .before .before .before .before .before .args .at)) (c .before .before .before .before .before .before .before .before .before .before .pre) (five (now (c .before .before .before .before .before .before .before .before .before .before .args .head)) (now (c .before .before .before .before .before .before .before .before .before .before .args .events)) (now (c .before .before .before .before .before .before .before .before .before .before .args .bytes)) (now (c .before .before .before .before .before .before .before .before .before .before .args .rows)) (now (c .before .before .before .before .before .before .before .before .before .before .args .pairs))) (rw (c .before .before .data-count .ensures .is) at (c .before .short-of .ensures)) (c .if1 .taken)
+returns c = lending-short (now (c .before .before .before .before .before .before .before .before .before .before .args .s)) (c .before .before .before .before .before .before .before .before .before .before .args .x) (now (c .before .before .before .before .before .before .before .before .before .before .args .at)) (c .before .before .before .before .before .before .before .before .before .before .pre) (five (now (c .before .before .before .before .before .before .before .before .before .before .args .head)) (now (c .before .before .before .before .before .before .before .before .before .before .args .events)) (now (c .before .before .before .before .before .before .before .before .before .before .args .bytes)) (now (c .before .before .before .before .before .before .before .before .before .before .args .rows)) (now (c .before .before .before .before .before .before .before .before .before .before .args .pairs))) (rw (c .before .before .data-count .ensures .is) at (c .before .short-of .ensures)) (omega arith)
 
 put-head-requires : tie.Need-put-head-requires
 put-head-requires c κs = search needs

@@ -15,7 +15,7 @@ cast-if1 c = search needs
 
 returns : tie.Need-returns
 unfolding shortBy
-returns c = rw (lt-ltb _ _ (rw (c .before .head-bytes .ensures) at (c .if1 .taken)))
+returns c = simp (lt-ltb _ _ (rw (c .before .head-bytes .ensures) at (c .if1 .taken)))
 
 cast-if2 : tie.Need-cast-if2
 cast-if2 c = search needs
@@ -25,11 +25,11 @@ mul-if2 c = search needs
 
 returns-2 : tie.Need-returns-2
 unfolding shortBy
-returns-2 c = rw (le-ltb _ _ (rw (c .before .before .before .head-bytes .ensures) at (c .before .before .if1 .left)), lt-ltb _ _ (c .if2 .taken))
+returns-2 c = simp (le-ltb _ _ (rw (c .before .before .before .head-bytes .ensures) at (c .before .before .if1 .left)), lt-ltb _ _ (c .if2 .taken))
 
 returns-3 : tie.Need-returns-3
 unfolding shortBy
-returns-3 c = rw (le-ltb _ _ (rw (c .before .before .before .before .head-bytes .ensures) at (c .before .before .before .if1 .left)), le-ltb _ _ (c .before .if2 .left), lt-ltb _ _ (c .if3 .taken))
+returns-3 c = simp (le-ltb _ _ (rw (c .before .before .before .before .head-bytes .ensures) at (c .before .before .before .if1 .left)), le-ltb _ _ (c .before .if2 .left), lt-ltb _ _ (c .if3 .taken))
 
 cast-if4 : tie.Need-cast-if4
 cast-if4 c = search needs
@@ -46,7 +46,7 @@ mul-if4 c = rw (c .row-bytes .ensures) (omega arith)
 
 returns-4 : tie.Need-returns-4
 unfolding shortBy
-returns-4 c = rw (le-ltb _ _ (rw (c .before .before .before .before .before .before .before .head-bytes .ensures) at (c .before .before .before .before .before .before .if1 .left)), le-ltb _ _ (c .before .before .before .before .if2 .left), le-ltb _ _ (c .before .before .before .if3 .left), lt-ltb _ _ (rw (c .before .row-bytes .ensures) at (c .if4 .taken)))
+returns-4 c = simp (le-ltb _ _ (rw (c .before .before .before .before .before .before .before .head-bytes .ensures) at (c .before .before .before .before .before .before .if1 .left)), le-ltb _ _ (c .before .before .before .before .if2 .left), le-ltb _ _ (c .before .before .before .if3 .left), lt-ltb _ _ (rw (c .before .row-bytes .ensures) at (c .if4 .taken)))
 
 cast-if5 : tie.Need-cast-if5
 cast-if5 c = search needs
@@ -59,11 +59,11 @@ mul-if5 c = search needs
 
 returns-5 : tie.Need-returns-5
 unfolding shortBy
-returns-5 c = rw (le-ltb _ _ (rw (c .before .before .before .before .before .before .before .before .before .head-bytes .ensures) at (c .before .before .before .before .before .before .before .before .if1 .left)), le-ltb _ _ (c .before .before .before .before .before .before .if2 .left), le-ltb _ _ (c .before .before .before .before .before .if3 .left), le-ltb _ _ (rw (c .before .before .before .row-bytes .ensures) at (c .before .before .if4 .left)), lt-ltb _ _ (c .if5 .taken))
+returns-5 c = simp (le-ltb _ _ (rw (c .before .before .before .before .before .before .before .before .before .head-bytes .ensures) at (c .before .before .before .before .before .before .before .before .if1 .left)), le-ltb _ _ (c .before .before .before .before .before .before .if2 .left), le-ltb _ _ (c .before .before .before .before .before .if3 .left), le-ltb _ _ (rw (c .before .before .before .row-bytes .ensures) at (c .before .before .if4 .left)), lt-ltb _ _ (c .if5 .taken))
 
 returns-6 : tie.Need-returns-6
 unfolding shortBy
-returns-6 c = rw (le-ltb _ _ (rw (c .before .before .before .before .before .before .before .before .before .head-bytes .ensures) at (c .before .before .before .before .before .before .before .before .if1 .left)), le-ltb _ _ (c .before .before .before .before .before .before .if2 .left), le-ltb _ _ (c .before .before .before .before .before .if3 .left), le-ltb _ _ (rw (c .before .before .before .row-bytes .ensures) at (c .before .before .if4 .left)), le-ltb _ _ (c .if5 .left))
+returns-6 c = simp (le-ltb _ _ (rw (c .before .before .before .before .before .before .before .before .before .head-bytes .ensures) at (c .before .before .before .before .before .before .before .before .if1 .left)), le-ltb _ _ (c .before .before .before .before .before .before .if2 .left), le-ltb _ _ (c .before .before .before .before .before .if3 .left), le-ltb _ _ (rw (c .before .before .before .row-bytes .ensures) at (c .before .before .if4 .left)), le-ltb _ _ (c .if5 .left))
 
 pub short-of-spec : {M : Type 1} → statement M
 short-of-spec =

@@ -58,6 +58,8 @@ fn every_number() {
     refused(lent(&HEAD, &longer, &[0, 0, 0], &ROWS, &[]), 4, 0);
     refused(lent(&HEAD, &[0, 2, 0, 0, 1, 0, 255, 255], &[0; 2], &[], &[]), 4, 0);
     refused(lent(&HEAD, &[1, 4, 2, 0, 0, 0, 0, 1], &[0], &[], &[]), 4, 0);
+    // right by chance, and then nothing is left for the next
+    refused(lent(&HEAD, &longer, &DATA[..1], &ROWS, &[]), 4, 1);
     // 5: each byte of the head; what a shorter slice lacks is 0; a longer one is not looked at
     for head in [&[0, 1, 1][..], &[2, 1, 1], &[1, 0, 1], &[1, 9, 1], &[1, 1, 0], &[1, 1, 65], &[], &[1], &[1, 1]] {
         refused(lent(head, &EVENTS, &DATA, &ROWS, &[]), 5, 0);

@@ -221,7 +221,13 @@ fn tear(rng: &mut Rng, d: &mut Draft) -> &'static str {
 fn counts(rng: &mut Rng, d: &mut Draft) -> &'static str {
     let i = rng.below(d.events.len());
     let count = &mut d.events[i].2;
-    match rng.below(5) {
+    match rng.below(6) {
+        5 => {
+            // the data ends behind this event's, whose number is too large: it has what it needs, and those behind nothing
+            *count += rng.range(1, 9);
+            d.events[i + 1..].iter_mut().for_each(|e| e.1.clear());
+            "data-ends"
+        }
         0 => {
             *count += rng.range(1, 4);
             "count-more"

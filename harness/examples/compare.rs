@@ -29,8 +29,12 @@ fn main() {
     let began = std::time::Instant::now();
     if tables {
         // the first difference stops it
-        for hits in [compare_tables::random_tables(seed, count), compare_tables::tables_of_random_sheets(seed, count)] {
-            println!("seed {seed}: {count} agree, {:.1} s\n{hits}", began.elapsed().as_secs_f64());
+        for compared in [compare_tables::random_tables, compare_tables::tables_of_random_sheets] {
+            let (hits, took) = (compared(seed, count), began.elapsed().as_secs_f64());
+            println!("seed {seed}: {count} agree, {took:.1} s since it began\n{hits}");
+            if !hits.missing().is_empty() {
+                println!("never came: {}", hits.missing().join(", "));
+            }
         }
         return;
     }

@@ -1,7 +1,9 @@
-/* plimdrong.h: recorded executions ("sheets") judged against the ECMAScript memory model, for C and C++.
+/* plimdrong.h: recorded executions ("sheets") judged against the ECMAScript memory model, and sheets written, for C and
+ * C++.
  *
- * One function. It takes a sheet and two lent buffers and answers with a 64-bit word; it allocates nothing, keeps
- * nothing between calls, and every byte string gets an answer. Calls with buffers of their own may run side by side.
+ * plimdrong_judge takes a sheet and two lent buffers; plimdrong_write makes a sheet of a lent table, plimdrong_table a
+ * table of a sheet. Each answers with a 64-bit word, allocates nothing, keeps nothing between calls, and gives every
+ * input an answer. Calls with buffers of their own may run side by side.
  *
  *   uint8_t scratch[PLIMDRONG_MAX_SCRATCH], order[PLIMDRONG_MAX_EVENTS];
  *   uint64_t word = plimdrong_judge(sheet, length, scratch, sizeof scratch, order, sizeof order);
@@ -13,9 +15,9 @@
  *
  * Link with libplimdrong.a (harness/native.sh writes target/native/libplimdrong.a for the machine at hand).
  *
- * THE WORD. Kind (1, 2, 3) times 2^40, plus number times 2^32, plus 32 bits: the place for a refusal, else four names as
- * bytes, the first most significant, PLIMDRONG_NONE where there is none. Bits 48 and up are zero today and will carry more:
- * take a word apart with the macros, which mask kind and number to eight bits each.
+ * THE WORD. Kind (1, 2, 3; 5 and 14 for tables, below) times 2^40, plus number times 2^32, plus 32 bits: the place for a
+ * refusal, else four names as bytes, the first most significant, PLIMDRONG_NONE where there is none. Bits 48 and up are
+ * zero today and will carry more: take a word apart with the macros, which mask kind and number to eight bits each.
  *
  * REFUSED, kind 1: the sheet is not well-formed or a buffer is too short. Both buffers are unchanged.
  *    1 sheet over 4,096 bytes                        place 0
@@ -46,6 +48,35 @@
  *
  * THE SCRATCH needs, with n events that are not inits, the larger of 1 and 2^n / 8 bytes; what it holds on entry does
  * not matter. The buffers overlap neither each other nor the sheet. A length may be 0; no pointer may be null.
+ *
+ * THE WRITER'S TABLE: what a sheet says, as five byte slices.
+ *   head     edition, agents, memory size. What a shorter slice lacks counts as 0; a longer one's rest is not looked at.
+ *   events   8 bytes each: agent, kind, mode, start, width, tear, and the number of its data bytes, the most significant
+ *            byte first. Tear is 1 where the event is tear-free and 0 where it is not; at edition 1 it must be 1 for sc
+ *            reads, writes and read-modify-writes and for unordered ones of width 1, 2 or 4 whose start is divisible by
+ *            the width, and 0 for all else, inits and markers among it (6 otherwise).
+ *   data     the data bytes of all events, one event after another. An event whose bytes are not all there has those
+ *            that are. Bytes behind the last event's are not looked at.
+ *   rows     3 bytes each: reader, address, writer.
+ *   pairs    2 bytes each: marker, marker.
+ * A rest that is shorter than an entry is none.
+ *
+ * plimdrong_write fills `out` with the sheet of a table.
+ *   PLIMDRONG_WRITTEN, kind 5, number 0: the first PLIMDRONG_LENGTH(word) bytes of `out` are the sheet, the bytes behind
+ *     it are unchanged. PLIMDRONG_MAX_SHEET bytes are enough for every sheet.
+ *   PLIMDRONG_REFUSED, kind 1: `out` is unchanged. The number is the one by which the sheet would be refused, 1, 4 to 11
+ *     or 14, in the order above. PLIMDRONG_PLACE(word) is no place in a sheet but an index in a list: of events for 4, 6,
+ *     9 and 11, of rows for 7, of pairs for 8 and 9; 0 for 1, 5, 10 and 14. (Of 9 it is 32 for a pair, less for an event.)
+ *     Then 15 at 0: `out` is shorter than the sheet.
+ *
+ * plimdrong_table is the other way: it fills five buffers with the table of a sheet.
+ *   PLIMDRONG_TABLE, kind 14: PLIMDRONG_TABLE_EVENTS(word) events with PLIMDRONG_TABLE_DATA(word) data bytes in all,
+ *     PLIMDRONG_TABLE_ROWS(word) rows, PLIMDRONG_TABLE_PAIRS(word) pairs. Each buffer holds its list from its front on
+ *     (the head 3 bytes, an event 8, a row 3, a pair 2), the bytes behind it are unchanged.
+ *   PLIMDRONG_REFUSED, kind 1: all five buffers are unchanged. The number and the place are those by which
+ *     plimdrong_judge refuses the sheet, 1 to 11 and 14. Then 15: a buffer is too short, and PLIMDRONG_PLACE(word) says
+ *     which is the first such: 0 head, 1 events, 2 data, 3 rows, 4 pairs.
+ * What is written from that table is the sheet again, and the table of a written sheet is the table that was lent.
  */
 #ifndef PLIMDRONG_H
 #define PLIMDRONG_H
@@ -58,10 +89,27 @@
 #define PLIMDRONG_MAX_SCRATCH 8192
 #define PLIMDRONG_MAX_EVENTS 20
 
+/* Other limits of a sheet: inits, events that are no inits, pairs, bytes of memory, the width of what is no init. */
+#define PLIMDRONG_MAX_INITS 4
+#define PLIMDRONG_MAX_OTHERS 16
+#define PLIMDRONG_MAX_PAIRS 32
+#define PLIMDRONG_MAX_MEMORY 64
+#define PLIMDRONG_MAX_WIDTH 8
+
+/* Bytes enough for the table of every sheet, by these limits. */
+#define PLIMDRONG_MAX_TABLE_HEAD 3
+#define PLIMDRONG_MAX_TABLE_EVENTS (8 * PLIMDRONG_MAX_EVENTS)
+#define PLIMDRONG_MAX_TABLE_DATA \
+    (PLIMDRONG_MAX_INITS * PLIMDRONG_MAX_MEMORY + PLIMDRONG_MAX_OTHERS * 2 * PLIMDRONG_MAX_WIDTH)
+#define PLIMDRONG_MAX_TABLE_ROWS (3 * PLIMDRONG_MAX_OTHERS * PLIMDRONG_MAX_WIDTH)
+#define PLIMDRONG_MAX_TABLE_PAIRS (2 * PLIMDRONG_MAX_PAIRS)
+
 /* Kinds of answer. */
 #define PLIMDRONG_REFUSED 1
 #define PLIMDRONG_BROKEN 2
 #define PLIMDRONG_CONSISTENT 3
+#define PLIMDRONG_WRITTEN 5
+#define PLIMDRONG_TABLE 14
 
 /* Numbers of a consistent answer. */
 #define PLIMDRONG_ORDERLY 0
@@ -76,12 +124,27 @@
 #define PLIMDRONG_PLACE(word) ((uint32_t)((word) & 0xffffffffu))
 #define PLIMDRONG_NAME(word, index) ((unsigned)((word) >> (24 - 8 * (index)) & 255))
 
+/* The length of a written sheet; how many entries and data bytes a table has. */
+#define PLIMDRONG_LENGTH(word) ((uint32_t)((word) & 0xffffffffu))
+#define PLIMDRONG_TABLE_EVENTS(word) ((unsigned)((word) >> 32 & 255))
+#define PLIMDRONG_TABLE_PAIRS(word) ((unsigned)((word) >> 24 & 255))
+#define PLIMDRONG_TABLE_ROWS(word) ((unsigned)((word) >> 12 & 4095))
+#define PLIMDRONG_TABLE_DATA(word) ((unsigned)((word) & 4095))
+
 #ifdef __cplusplus
 extern "C" {
 #endif
 
 uint64_t plimdrong_judge(const uint8_t *sheet, size_t sheet_len, uint8_t *scratch, size_t scratch_len, uint8_t *order,
                          size_t order_len);
+
+uint64_t plimdrong_write(const uint8_t *head, size_t head_len, const uint8_t *events, size_t events_len,
+                         const uint8_t *data, size_t data_len, const uint8_t *rows, size_t rows_len,
+                         const uint8_t *pairs, size_t pairs_len, uint8_t *out, size_t out_len);
+
+uint64_t plimdrong_table(const uint8_t *sheet, size_t sheet_len, uint8_t *head, size_t head_len, uint8_t *events,
+                         size_t events_len, uint8_t *data, size_t data_len, uint8_t *rows, size_t rows_len,
+                         uint8_t *pairs, size_t pairs_len);
 
 #ifdef __cplusplus
 }

@@ -1,10 +1,17 @@
 //! compare --seed S --count N [--max-events K]: random sheets, the linked judge against the second program.
+//! compare --tables --seed S --count N: random tables, the linked writer and the way back against it.
 
 #[path = "../tests/compare/mod.rs"]
 mod compare;
 
+#[path = "../tests/compare_tables/mod.rs"]
+#[allow(dead_code)]
+mod compare_tables;
+
 fn main() {
-    let args: Vec<String> = std::env::args().skip(1).collect();
+    let mut args: Vec<String> = std::env::args().skip(1).collect();
+    let tables = args.first().is_some_and(|a| a == "--tables");
+    args.drain(..usize::from(tables));
     let (mut seed, mut count, mut max) = (1, 1_000_000, 0);
     for two in args.chunks(2) {
         match (two[0].as_str(), two.get(1).and_then(|n| n.parse::<u64>().ok())) {
@@ -12,12 +19,25 @@ fn main() {
             ("--count", Some(n)) => count = n,
             ("--max-events", Some(n)) => max = n as usize,
             _ => {
-                eprintln!("usage: compare --seed S --count N [--max-events K]");
+                eprintln!(
+                    "usage: compare --seed S --count N [--max-events K]\n       compare --tables --seed S --count N"
+                );
                 std::process::exit(2);
             }
         }
     }
     let began = std::time::Instant::now();
+    if tables {
+        // the first difference stops it
+        for compared in [compare_tables::random_tables, compare_tables::tables_of_random_sheets] {
+            let (hits, took) = (compared(seed, count), began.elapsed().as_secs_f64());
+            println!("seed {seed}: {count} agree, {took:.1} s since it began\n{hits}");
+            if !hits.missing().is_empty() {
+                println!("never came: {}", hits.missing().join(", "));
+            }
+        }
+        return;
+    }
     match compare::random_sheets(seed, count, max) {
         Ok(tally) => {
             println!("seed {seed}: {count} sheets agree, {:.1} s\n{tally}", began.elapsed().as_secs_f64());

@@ -27,13 +27,33 @@
 //! [`judge`] brings its own buffers; [`Judge`] keeps them for many sheets; [`judge_with`] is the exported function
 //! itself, over buffers of any length. The judge never allocates, and every byte string gets an answer.
 //!
-//! What is proved is the function behind [`judge_with`]. Trusted are the compiler's back end, this crate's one `unsafe`
-//! call and its reading of the 64-bit answer.
+//! Sheets are written from a [`Table`], which a program fills in or a person types:
+//!
+//! ```
+//! use plimdrong::{judge, Table};
+//!
+//! let table = Table::parse(
+//!     "head 1 1 1
+//!      init at 0: 00
+//!      A1 read unordered at 0: 00
+//!      row 1 0 0",
+//! );
+//! let sheet = table.unwrap().sheet().unwrap();
+//! assert_eq!(judge(&sheet).to_string(), "consistent orderly then 0 1");
+//! ```
+//!
+//! What is proved is the functions behind [`judge_with`], [`write_with`] and [`table_with`]. Trusted are the compiler's
+//! back end, this crate's three `unsafe` calls, its laying out of a table and its reading of the 64-bit answers.
 
 mod answer;
+mod table;
+mod text;
 mod words;
 
 pub use answer::{Answer, Order, Rule};
+pub use table::{kind, mode, table_with, write_with};
+pub use table::{Buffers, Entry, Event, Head, Pair, Row, Slices, Table, Unwritable};
+pub use text::{Lines, ParseError};
 pub use words::{refusal, Refusal};
 
 /// The longest sheet in bytes. A longer one is refused, number 1.
@@ -42,6 +62,27 @@ pub const MAX_SHEET: usize = 4096;
 pub const MAX_SCRATCH: usize = 8192;
 /// The most events: 4 inits and 16 others.
 pub const MAX_EVENTS: usize = 20;
+/// The most inits.
+pub const MAX_INITS: usize = 4;
+/// The most events that are not inits.
+pub const MAX_OTHERS: usize = 16;
+/// The most pairs.
+pub const MAX_PAIRS: usize = 32;
+/// The most bytes of memory.
+pub const MAX_MEMORY: usize = 64;
+/// The widest event that is no init.
+pub const MAX_WIDTH: usize = 8;
+
+/// Buffers enough for the table of every sheet: its head,
+pub const MAX_TABLE_HEAD: usize = 3;
+/// its events,
+pub const MAX_TABLE_EVENTS: usize = 8 * MAX_EVENTS;
+/// their data: inits with the whole memory each, and read-modify-writes of the greatest width,
+pub const MAX_TABLE_DATA: usize = MAX_INITS * MAX_MEMORY + MAX_OTHERS * 2 * MAX_WIDTH;
+/// its rows: all events that are not inits read,
+pub const MAX_TABLE_ROWS: usize = 3 * MAX_OTHERS * MAX_WIDTH;
+/// its pairs.
+pub const MAX_TABLE_PAIRS: usize = 2 * MAX_PAIRS;
 
 extern "C" {
     // crates/plimdrong: a byte slice passes as a pointer and then a length

@@ -10,7 +10,8 @@ pub struct Refusal {
     pub remedy: &'static str,
 }
 
-/// The meaning of a refusal's number; nothing for a number that the judge does not give.
+/// The meaning of a refusal's number; nothing for a number that no entry gives. The judge gives 1 to 14; 15 comes from
+/// [`write_with`](crate::write_with) and [`table_with`](crate::table_with).
 pub fn refusal(number: u8) -> Option<Refusal> {
     let (meaning, remedy) = match number {
         1 => ("The sheet is over 4,096 bytes.", "Record a shorter execution, or cut what follows the last field."),
@@ -68,6 +69,30 @@ pub fn refusal(number: u8) -> Option<Refusal> {
             "Check that the log of every agent was recorded and written, or let the head count only the agents that ran; \
              a marker is an event.",
         ),
+        15 => (
+            "A buffer that was lent to be filled is too short.",
+            "Lend 4,096 bytes for a sheet; for a table 3 (head), 160 (events), 512 (data), 384 (rows) and 64 (pairs) are \
+             enough.",
+        ),
+        _ => return None,
+    };
+    Some(Refusal { meaning, remedy })
+}
+
+/// The same for a table, where the words of a sheet do not fit it: there are no fields yet, and no places.
+pub(crate) fn unwritable(number: u8) -> Option<Refusal> {
+    let (meaning, remedy) = match number {
+        1 => ("Its sheet would be over 4,096 bytes.", "Record a shorter execution; look for data that is too long."),
+        4 => (
+            "Its data has the wrong length.",
+            "A read and a write have as many data bytes as their width says, a read-modify-write twice as many (seen, then \
+             written), a marker none.",
+        ),
+        11 => (
+            "A byte that was read has no row.",
+            "Give each byte of each read and read-modify-write exactly one row.",
+        ),
+        5..=10 | 14 => return refusal(number),
         _ => return None,
     };
     Some(Refusal { meaning, remedy })

@@ -81,11 +81,21 @@ fn cpp() {
 }
 
 /// The header's macros read a word as crates/answer/specs/Read.antt does, of which it is proved that they tell the answer: `kindIn`, `numberIn`,
-/// `placeIn`, `byteIn`; and the crate reads the same words in the same parts.
+/// `placeIn`, `byteIn`; and the crate reads the same words in the same parts. So do the macros of a written sheet and of a
+/// table; sizes and kinds are the crate's.
 #[test]
 fn macros() {
     let words = words::words();
-    let expected: String = words
+    let sizes = [
+        plimdrong::MAX_TABLE_HEAD,
+        plimdrong::MAX_TABLE_EVENTS,
+        plimdrong::MAX_TABLE_DATA,
+        plimdrong::MAX_TABLE_ROWS,
+        plimdrong::MAX_TABLE_PAIRS,
+    ];
+    assert_eq!(sizes, [3, 8 * 20, 512, 3 * 128, 2 * 32]);
+    let first = format!("1 2 3 5 14\n{}\n", sizes.map(|n| n.to_string()).join(" "));
+    let lines: String = words
         .iter()
         .map(|&w| {
             let byte = |i: u32| w / 2u64.pow(24 - 8 * i) % 256;
@@ -93,9 +103,13 @@ fn macros() {
             if let Some(answer) = plimdrong::Answer::from_word(w, &[0, 1, 255]) {
                 assert_eq!(words::parts_of(&answer), (kind, number, place), "{w:#x}");
             }
-            format!("{kind} {number} {place} {} {} {} {}\n", byte(0), byte(1), byte(2), byte(3))
+            let names = format!("{} {} {} {}", byte(0), byte(1), byte(2), byte(3));
+            // a written sheet's length; a table's events, pairs (8 bits), rows (12), data bytes (12)
+            let counts = format!("{place} {number} {} {} {}", byte(0), place / 2u64.pow(12) % 4096, place % 4096);
+            format!("{kind} {number} {place} {names} {counts}\n")
         })
         .collect();
+    let expected = first + &lines;
     let input: String = words.iter().map(|w| format!("{w}\n")).collect();
     for (compiler, language, standard) in [("gcc", "c", "c99"), ("g++", "c++", "c++11")] {
         let mut program = Command::new(compiled_from("harness/tests/macros.c", compiler, language, standard))
@@ -110,10 +124,24 @@ fn macros() {
         writer.join().unwrap();
         assert!(out.status.success());
         let out = String::from_utf8(out.stdout).unwrap();
-        for ((word, got), expected) in words.iter().zip(out.lines()).zip(expected.lines()) {
-            assert_eq!(got, expected, "{standard}: {word:#x}");
+        for (got, expected) in out.lines().zip(expected.lines()) {
+            assert_eq!(got, expected, "{standard}");
         }
         assert_eq!(out.len(), expected.len(), "{standard}");
+    }
+}
+
+/// The writer and the way back, called from C and from C++.
+#[test]
+fn write() {
+    for (compiler, language, standard) in [("gcc", "c", "c99"), ("g++", "c++", "c++11")] {
+        let program = compiled_from("harness/tests/write.c", compiler, language, standard);
+        let out = Command::new(program).output().unwrap();
+        assert!(out.status.success());
+        let said = String::from_utf8(out.stdout).unwrap();
+        let expected = "written 30\ntable 2 events 2 data 1 rows 0 pairs\nrefused 11 index 1\nrefused 15 index 0\n\
+                        refused 15 buffer 3\nrefused 2 at 24\n";
+        assert_eq!(said, expected, "{standard}");
     }
 }
 
@@ -125,6 +153,11 @@ fn constants() {
         ("MAX_SHEET", plimdrong::MAX_SHEET),
         ("MAX_SCRATCH", plimdrong::MAX_SCRATCH),
         ("MAX_EVENTS", plimdrong::MAX_EVENTS),
+        ("MAX_INITS", plimdrong::MAX_INITS),
+        ("MAX_OTHERS", plimdrong::MAX_OTHERS),
+        ("MAX_PAIRS", plimdrong::MAX_PAIRS),
+        ("MAX_MEMORY", plimdrong::MAX_MEMORY),
+        ("MAX_WIDTH", plimdrong::MAX_WIDTH),
     ] {
         assert!(header.contains(&format!("#define PLIMDRONG_{name} {value}\n")), "{name}");
     }

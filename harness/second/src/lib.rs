@@ -4,8 +4,9 @@
 //! - [`sheet`]: the format and refusals 1 to 11 and 14.
 //! - [`judge`]: refusals 12 and 13, relations, rules 21 to 26, the first order, the unsettled pair.
 //! - [`answer`]: the report line, the 64-bit word, and what both buffers hold afterwards.
+//! - [`table`]: 02 §2, a lent table to a sheet and back.
 //! - [`text`]: a sheet as text for people, and back.
-//! - [`random`]: random small sheets, whole and damaged, by a seed.
+//! - [`random`]: random small sheets and tables, whole and damaged, by a seed.
 
 #![allow(clippy::needless_range_loop)] // plain loops over event numbers are meant
 
@@ -13,6 +14,7 @@ pub mod answer;
 pub mod judge;
 pub mod random;
 pub mod sheet;
+pub mod table;
 pub mod text;
 
 pub use answer::{judge_into, needed_scratch, Answer};

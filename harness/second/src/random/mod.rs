@@ -1,14 +1,16 @@
 //! Random small sheets by a seed: whole ones around the litmus table, replayed and free, and ones damaged in every way
 //! that document 01 refuses.
 //!
-//! [`case`] gives the sheet of a seed and an index, always the same.
+//! [`case`] gives the sheet of a seed and an index, [`table_case`] the table for the writer, always the same.
 
 use crate::sheet::{read, MAX_EVENTS, MAX_INITS, MAX_OTHERS, MAX_PAIRS, MAX_SCRATCH, MAX_SHEET};
 
 mod damage;
+mod tables;
 mod whole;
 
 pub use damage::{damaged, Way, WAYS};
+pub use tables::{table_buffers, table_case, table_damaged, table_ways, TableCase};
 pub use whole::{sized, whole};
 
 /// splitmix64.

@@ -1,6 +1,7 @@
 -- Laws of lists that the kit lacks. Assumes nothing.
 --     part-short, part-none         a part that is cut off by the list's end
 --     part-front                    a part of a list's front
+--     take-capped                   a front that is not longer than the list
 --     front-at, front-past, front-length     a mapped front of a list
 --     from-length, from-at, from-mem, from-elim, from-next, from-more     the numbers from a start on; one more
 --     up-more                       what holds below a number, and of it
@@ -13,10 +14,13 @@
 --     across-left, across-mem       a pair of two lists' entries
 use mathlib.Core.Path.{_≡_, refl, sym, ap, _∙_, subst}
 use mathlib.Core.Logic.{_⊎_, inl, inr, ⊎-elim}
+use mathlib.Core.Bool.{Bool, true, false}
 use mathlib.Core.List.{List, [], _∷_, _++_, map, List·Memᴰ, List·Memᴰ·head, List·Memᴰ·tail, List·Memᴰ·not-nil, List·Memᴰ·cases-cons, List·Memᴰ·append-cases, Memᴰ·append-left, Memᴰ·append-right}
-use Prim.Native.Nat.{ℕ, zero, suc, _+_, _-_, _≤_, _<_}
+use Prim.Native.Nat.{ℕ, zero, suc, _+_, _-_, _≤_, _<_, min}
 use native.Mathlib.Omega.{arith}
 use native.Mathlib.Numerals.{add-one}
+use borrow.Author.Tests.{leb-true, leb-false}
+use lib.Dec.{leb}
 use lib.ListN.{length, getD, take, drop, replicate, length-drop, length-take, length-map, drop-of-length-le, length-append, List·getD-append, List·getD-eq-default}
 use lib.Seq.{take-all, take-nil, take-take, getD-take, getD-append-seam}
 use native.Mathlib.Nat.{eq-or-lt-of-le}
@@ -34,6 +38,13 @@ part-front w zero n s h = take-take w n s (omega arith)
 part-front w (suc m) zero s h = absurd (omega arith)
 part-front w (suc m) (suc n) [] h = refl
 part-front w (suc m) (suc n) (a ∷ s) h = part-front w m n s (omega arith)
+
+pub take-capped : (m n : ℕ) (l : List ℕ) → n ≡ min m (length l) → take n l ≡ take m l
+take-capped m n l c = go (leb m (length l)) refl
+  where
+    go : (b : Bool) → leb m (length l) ≡ b → take n l ≡ take m l
+    go true p = let h : m ≤ length l = leb-true _ _ p in let e : n ≡ m = omega arith in ap (λ (k : ℕ). take k l) e
+    go false p = let h : length l < m = leb-false _ _ p in take-all n l (omega arith) ∙ sym (take-all m l (omega arith))
 
 at-mapped {ℓ} : {A : Type ℓ} (f : ℕ → A) (l : List ℕ) (i : ℕ) (d : A) → i < length l → getD (map f l) i d ≡ f (getD l i 0)
 at-mapped f [] i d h = absurd (omega arith)

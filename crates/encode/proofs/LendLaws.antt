@@ -1,6 +1,7 @@
--- The law of specs/Lend.antt: what a table's slices lend is the table. Entry by entry, behind what stands before it. Assumes nothing.
+-- The law of specs/Lend.antt, `lends`: what a table's slices lend is the table. Entry by entry, behind what stands before it. Assumes nothing.
+--     flat-snoc, flat-length        the bytes of one entry more; of entries of one length
 use mathlib.Core.Path.{_≡_, refl, sym, ap, _∙_}
-use mathlib.Core.List.{List, [], _∷_, _++_, append-assoc}
+use mathlib.Core.List.{List, [], _∷_, _++_, append-assoc, append-nil}
 use Prim.Native.Nat.{ℕ, suc, _+_, _*_, _/_, _<_}
 use native.Mathlib.Omega.{arith}
 use native.Mathlib.Nat.{suc-mul, mul-div-cancel, div-add-mod'}
@@ -15,6 +16,12 @@ use Rattle.encode.specs.Table.{Description, Table}
 use Rattle.encode.specs.Encode.{rowValue, pairValue}
 use Rattle.encode.specs.Lent.{part, entries, descriptionBytes, dataLength, dataFrom, descriptionOf, descriptionNo, lent}
 use Rattle.encode.specs.Lend.{eight, dataOf, flat, Lends}
+
+module _ {A : Type 0} (f : A → List ℕ) where
+  pub flat-snoc : (l : List A) (a : A) → flat f (l ++ (a ∷ [])) ≡ flat f l ++ f a
+  unfolding flat
+  flat-snoc [] a = append-nil (f a)
+  flat-snoc (b ∷ l) a = ap (λ (m : List ℕ). f b ++ m) (flat-snoc l a) ∙ sym (append-assoc (f b) (flat f l) (f a))
 
 module _ {A : Type 0} (f : A → List ℕ) (gap : ℕ) (fixed : (a : A) → length (f a) ≡ gap) where
   pub flat-length : (l : List A) → length (flat f l) ≡ length l * gap

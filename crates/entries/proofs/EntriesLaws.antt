@@ -5,17 +5,14 @@
 --     spaced-count, spaced-at, spaced-more, spaced-none     of things a gap apart
 --     rows-count, row-at, pairs-count, pair-at              the same of rows and pairs
 use mathlib.Core.Path.{_≡_, refl, sym, ap, _∙_}
-use mathlib.Core.Bool.{Bool, true, false}
+use mathlib.Core.Bool.{false}
 use mathlib.Core.List.{List, [], _∷_, _++_, map}
 use Prim.Native.Nat.{ℕ, zero, suc, _+_, _*_, _<_, _≤_, min}
 use native.Mathlib.Omega.{arith}
 use native.Mathlib.Numerals.{add-one}
-use borrow.Author.Tests.{leb-true, leb-false}
-use lib.Dec.{leb}
 use lib.ListN.{length, getD, take}
-use lib.Seq.{take-all}
 use Rattle.basis.specs.Test.{_and_}
-use Rattle.basis.proofs.ListLaws.{front-at, front-past, front-length}
+use Rattle.basis.proofs.ListLaws.{take-capped, front-at, front-past, front-length}
 use Rattle.format.specs.declared.Shape.{Shape}
 use Rattle.format.specs.Shape.{reads, writes, marks, covers, overlap}
 use Rattle.format.specs.Event.{Event, nobody, readsAt, writesAt, readsSome, isMarker, meets}
@@ -40,14 +37,7 @@ module _ (s : List ℕ) (edition n : ℕ) (at : List ℕ) where
 
 pub events-capped : (s : List ℕ) (edition n : ℕ) (at : List ℕ) → eventsOn s edition n at ≡ eventsOn s edition (min n (length at)) at
 unfolding eventsOn
-events-capped s edition n at = ap (map (eventAt s edition)) (go (leb n (length at)) refl)
-  where
-    go : (b : Bool) → leb n (length at) ≡ b → take n at ≡ take (min n (length at)) at
-    go true p = let h : n ≤ length at = leb-true _ _ p in let e : n ≡ min n (length at) = omega arith in ap (λ (m : ℕ). take m at) e
-    go false p =
-        let h : length at < n = leb-false _ _ p in
-        let e : length at ≡ min n (length at) = omega arith in
-        take-all n at (omega arith) ∙ sym (take-all (length at) at (omega arith)) ∙ ap (λ (m : ℕ). take m at) e
+events-capped s edition n at = ap (map (eventAt s edition)) (sym (take-capped n (min n (length at)) at refl))
 
 -- what event i does, where there is such an event and where there is none
 module _ (s : List ℕ) (edition n : ℕ) (at : List ℕ) (i : ℕ) where

@@ -5,12 +5,12 @@
 --     lending-unique      two results agree
 use mathlib.Core.Path.{_≡_, refl, sym, ap, _∙_}
 use mathlib.Core.Bool.{Bool, true, false, cond}
-use mathlib.Core.List.{List, _++_}
+use mathlib.Core.List.{List}
 use Prim.Native.Nat.{ℕ, _*_, _<_, _≤_}
 use native.Mathlib.Omega.{arith}
 use borrow.Author.Tests.{lt-ltb, le-ltb, ltb-false}
 use lib.Dec.{ltb}
-use lib.ListN.{length, drop, take-append-drop}
+use lib.ListN.{length}
 use Rattle.format.specs.Layout.{headBytes, rowBytes, pairBytes}
 use Rattle.parse.specs.Parse.{refused, parse}
 use Rattle.entries.specs.declared.Counts.{Counts}
@@ -22,7 +22,7 @@ use Rattle.encode.specs.Encode.{headValue}
 use Rattle.encode.specs.Lent.{descriptionBytes}
 use Rattle.encode.specs.Lend.{Slices, slicesOf}
 use Rattle.puts.specs.Put.{Puts}
-use Rattle.puts.proofs.PutLaws.{puts-put}
+use Rattle.puts.proofs.PutLaws.{puts-put, put-front}
 use Rattle.slices.specs.Sliced.{eventsSlice, dataSlice, rowsSlice, pairsSlice, dataSum}
 use Rattle.lend.specs.declared.Lent.{Lent}
 use Rattle.lend.specs.declared.Lent.the-variants.{Refused, Table}
@@ -37,10 +37,7 @@ lending-refused entry e = record { answer = sym (ap (λ q. lentBy q entry) e); b
 
 -- where there is room, what was put is a front
 overlaid-put : {piece e f : List ℕ} {n : ℕ} → length piece ≤ length e → Puts piece 0 n e f → f ≡ overlaid piece e
-overlaid-put {piece} {e} {f} {n} h a =
-    let q = puts-put {p = piece} {e = e} {f = f} {at = 0} {m = n} (omega arith) a in
-    let k : n ≡ length piece = let b = q .after in omega arith in
-    sym (take-append-drop n f) ∙ ap (λ (l : List ℕ). l ++ drop n f) (q .written) ∙ ap (λ (l : List ℕ). piece ++ l) (q .rest) ∙ ap (λ (m : ℕ). piece ++ drop m e) k
+overlaid-put h a = put-front (puts-put (omega arith) a) .1
 
 table-same : {a b c d a′ b′ c′ d′ : ℕ} → a ≡ a′ → b ≡ b′ → c ≡ c′ → d ≡ d′ → Table a b c d ≡ Table a′ b′ c′ d′
 table-same p q r t = λ i. Table (p i) (q i) (r i) (t i)

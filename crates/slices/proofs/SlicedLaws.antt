@@ -1,51 +1,37 @@
 -- The laws of specs/Sliced.antt: of no entry, of one more, of all that were counted. Assumes nothing.
---     flat-snoc                          the bytes of one entry more
 --     flat-none, flat-more, flat-all     over the first places
 --     sum-none, sum-more, sum-all        the same of a sum
 --     data-few                           an event has no more data than twice a byte
 --     rows-none, rows-more, pairs-none, pairs-more     over rows and pairs
-use mathlib.Core.Path.{_≡_, refl, sym, ap, _∙_}
+use mathlib.Core.Path.{_≡_, refl, ap, _∙_}
 use mathlib.Core.Bool.{Bool, true, false, cond}
-use mathlib.Core.List.{List, [], _∷_, _++_, append-assoc, append-nil}
+use mathlib.Core.List.{List, [], _∷_, _++_}
 use Prim.Native.Nat.{ℕ, _+_, _*_, _<_, _≤_, min}
 use native.Mathlib.Omega.{arith}
 use native.Mathlib.Numerals.{add-one}
-use borrow.Author.Tests.{leb-true, leb-false}
-use lib.Dec.{eqb, leb}
+use lib.Dec.{eqb}
 use lib.ListN.{length, getD, take}
-use lib.Seq.{take-all, take-suc}
+use lib.Seq.{take-suc}
+use Rattle.basis.proofs.ListLaws.{take-capped}
 use Rattle.format.specs.declared.Shape.{Shape}
 use Rattle.format.specs.Layout.{dataBytes, rowGap, pairGap}
 use Rattle.entries.specs.Entries.{spaced, rowAt, pairAt, rowsOn, pairsOn}
 use Rattle.entries.proofs.EntriesLaws.{spaced-more}
 use Rattle.encode.specs.Encode.{rowValue, pairValue}
 use Rattle.encode.specs.Lend.{flat}
+use Rattle.encode.proofs.LendLaws.{flat-snoc}
 use Rattle.slices.specs.Sliced.{sum}
 
--- of the m events that were counted those that have a place
-capped : (m n : ℕ) (at : List ℕ) → n ≡ min m (length at) → take n at ≡ take m at
-capped m n at c = go (leb m (length at)) refl
-  where
-    go : (b : Bool) → leb m (length at) ≡ b → take n at ≡ take m at
-    go true p = let h : m ≤ length at = leb-true _ _ p in let e : n ≡ m = omega arith in ap (λ (k : ℕ). take k at) e
-    go false p = let h : length at < m = leb-false _ _ p in take-all n at (omega arith) ∙ sym (take-all m at (omega arith))
-
-module _ {A : Type 0} (f : A → List ℕ) where
-  pub flat-snoc : (l : List A) (a : A) → flat f (l ++ (a ∷ [])) ≡ flat f l ++ f a
-  unfolding flat
-  flat-snoc [] a = append-nil (f a)
-  flat-snoc (b ∷ l) a = ap (λ (m : List ℕ). f b ++ m) (flat-snoc l a) ∙ sym (append-assoc (f b) (flat f l) (f a))
-
-  pub flat-none : _≡_ {A = List ℕ} [] (flat f [])
-  unfolding flat
-  flat-none = refl
+pub flat-none : {A : Type 0} (f : A → List ℕ) → _≡_ {A = List ℕ} [] (flat f [])
+unfolding flat
+flat-none f = refl
 
 module _ (f : ℕ → List ℕ) (at : List ℕ) where
   pub flat-more : (e : ℕ) → e < length at → flat f (take (e + 1) at) ≡ flat f (take e at) ++ f (getD at e 0)
   flat-more e h = ap (flat f) (rw add-one (take-suc at e 0 h)) ∙ flat-snoc f (take e at) (getD at e 0)
 
   pub flat-all : (m n : ℕ) → n ≡ min m (length at) → flat f (take n at) ≡ flat f (take m at)
-  flat-all m n c = ap (flat f) (capped m n at c)
+  flat-all m n c = ap (flat f) (take-capped m n at c)
 
 module _ (f : ℕ → ℕ) where
   sum-snoc : (l : List ℕ) (a : ℕ) → sum f (l ++ (a ∷ [])) ≡ sum f l + f a
@@ -62,7 +48,7 @@ module _ (f : ℕ → ℕ) where
     sum-more e h = ap (sum f) (rw add-one (take-suc at e 0 h)) ∙ sum-snoc (take e at) (getD at e 0)
 
     pub sum-all : (m n : ℕ) → n ≡ min m (length at) → sum f (take n at) ≡ sum f (take m at)
-    sum-all m n c = ap (sum f) (capped m n at c)
+    sum-all m n c = ap (sum f) (take-capped m n at c)
 
 -- twice a byte, at most
 pub data-few : (a : Shape) → a .width ≤ 255 → dataBytes a ≤ 510

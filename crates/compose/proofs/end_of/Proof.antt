@@ -3,8 +3,6 @@ use borrow.Author.Needs.{needs}
 use borrow.Author.Tests.{le-leb, lt-leb}
 use Rattle.compose.proofs.end_of.Statement.{statement}
 use Rattle.compose.proofs.end_of.Tie as tie
-use Rattle.compose.proofs.end_of.Reads as reads
-use Rattle.compose.proofs.end_of.Lts as lts
 
 sub-if1 : tie.Need-sub-if1
 sub-if1 c = search needs

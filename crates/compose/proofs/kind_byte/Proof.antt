@@ -3,10 +3,6 @@ use borrow.Author.Needs.{needs}
 use Rattle.compose.proofs.ComposeLaws.{kind-same, kind-other}
 use Rattle.compose.proofs.kind_byte.Statement.{statement}
 use Rattle.compose.proofs.kind_byte.Tie as tie
-use Rattle.compose.proofs.kind_byte.Reads as reads
-use Rattle.compose.proofs.kind_byte.Lts as lts
-use Rattle.format.proofs.field.byte.Reads as byte-reads
-use Rattle.layout.proofs.shape_of.Reads as shape-of-reads
 
 shape-of-requires : tie.Need-shape-of-requires
 shape-of-requires c κs = search needs

@@ -3,12 +3,6 @@ use Rattle.compose.proofs.ComposeLaws.{puts-event, fixed-here}
 use borrow.Author.Needs.{needs}
 use Rattle.compose.proofs.put_event.Statement.{statement}
 use Rattle.compose.proofs.put_event.Tie as tie
-use Rattle.compose.proofs.put_event.Reads as reads
-use Rattle.compose.proofs.put_event.Lts as lts
-use Rattle.compose.proofs.kind_byte.Reads as kind-byte-reads
-use Rattle.compose.proofs.put_opening.Reads as put-opening-reads
-use Rattle.format.proofs.field.byte.Reads as byte-reads
-use Rattle.puts.proofs.put_bytes.Reads as put-bytes-reads
 
 byte-requires : tie.Need-byte-requires
 byte-requires c κs = search needs
@@ -44,7 +38,7 @@ same-length : tie.Need-same-length
 same-length c = search needs
 
 returns : tie.Need-returns
-returns c = puts-event (c .before .before .before .before .before .before .before .before .before .before .before .before .before .before .before .before .before .before .before .before .before .args .edition) (c .before .before .before .before .before .before .before .before .before .before .before .before .before .before .before .before .before .before .before .before .before .args .d .now) (c .before .before .before .before .before .before .before .before .before .before .before .before .before .before .before .before .before .before .before .before .before .args .bytes .now) _ (fixed-here (c .before .before .before .before .before .before .before .before .before .before .before .before .before .before .before .before .before .before .before .before .before .args .d .now) (c .before .before .before .before .before .before .before .before .before .before .before .before .before .before .before .before .before .byte .ensures) (c .before .before .before .before .before .before .before .before .before .before .before .before .before .before .before .before .kind-byte .ensures) (c .before .before .before .before .before .before .before .before .before .before .before .before .before .before .before .byte2 .ensures) (c .before .before .before .before .before .before .before .before .before .before .before .before .before .before .byte3 .ensures) (c .before .before .before .before .before .before .before .before .before .before .before .before .before .byte4 .ensures)) (c .before .before .before .before .before .before .before .before .before .before .before .put-opening .ensures) (c .before .before .before .before .before .before .put-bytes .ensures) (c .before .before .put-bytes2 .ensures)
+returns c = let a = c .before .before .before .before .before .before .before .before .before .before .before .before .before .before .before .before .before .before .before .before .before .args in puts-event (a .edition) (a .d .now) (a .bytes .now) _ (fixed-here (a .d .now) (c .before .before .before .before .before .before .before .before .before .before .before .before .before .before .before .before .before .byte .ensures) (c .before .before .before .before .before .before .before .before .before .before .before .before .before .before .before .before .kind-byte .ensures) (c .before .before .before .before .before .before .before .before .before .before .before .before .before .before .before .byte2 .ensures) (c .before .before .before .before .before .before .before .before .before .before .before .before .before .before .byte3 .ensures) (c .before .before .before .before .before .before .before .before .before .before .before .before .before .byte4 .ensures)) (c .before .before .before .before .before .before .before .before .before .before .before .put-opening .ensures) (c .before .before .before .before .before .before .put-bytes .ensures) (c .before .before .put-bytes2 .ensures)
 
 pub put-event-spec : {M : Type 1} → statement M
 put-event-spec =

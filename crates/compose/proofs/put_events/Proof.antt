@@ -11,11 +11,6 @@ use Rattle.encode.specs.Lent.{descriptionBytes, dataFrom, descriptionNo}
 use Rattle.compose.proofs.ComposeLaws.{puts-entry, puts-description, rest-none, rest-more, end-within, puts-run-none, puts-run-all}
 use Rattle.compose.proofs.put_events.Statement.{statement}
 use Rattle.compose.proofs.put_events.Tie as tie
-use Rattle.compose.proofs.put_events.Reads as reads
-use Rattle.compose.proofs.put_events.Lts as lts
-use Rattle.compose.proofs.data_length.Reads as data-length-reads
-use Rattle.compose.proofs.end_of.Reads as end-of-reads
-use Rattle.compose.proofs.put_event.Reads as put-event-reads
 
 abbrev Inv-loop : tie.InvT-loop
 Inv-loop out₀ at edition n events bytes next₀ first₀ k₀ i₀ out next first k i = (i ≤ n) × (k ≡ i * descriptionBytes) × (first ≤ length bytes) × (drop first bytes ≡ drop (dataFrom events i) bytes) × Puts (run 2 (eventValue edition) (each (descriptionNo events bytes) (from 0 i))) at next out₀ out
@@ -24,7 +19,7 @@ abbrev μ-loop : tie.MeasureT-loop
 μ-loop out₀ at edition n events bytes next₀ first₀ k₀ i₀ out next first k i = n - i
 
 loop-holds : tie.Need-loop-holds Inv-loop μ-loop
-loop-holds c = (omega arith, omega arith, omega arith, rest-none (c .before .before .before .args .events .now) (c .before .before .before .args .bytes .now), puts-run-none 2 (eventValue (c .before .before .before .args .edition)) (descriptionNo (c .before .before .before .args .events .now) (c .before .before .before .args .bytes .now)) (c .before .before .before .args .at) (c .before .before .before .args .out .now))
+loop-holds c = let a = c .before .before .before .args in (omega arith, omega arith, omega arith, rest-none (a .events .now) (a .bytes .now), puts-run-none 2 (eventValue (a .edition)) (descriptionNo (a .events .now) (a .bytes .now)) (a .at) (a .out .now))
 
 add-d : tie.Need-add-d Inv-loop μ-loop
 add-d c = omega arith
@@ -45,13 +40,13 @@ end-of-requires : tie.Need-end-of-requires Inv-loop μ-loop
 end-of-requires c κs = c .before .before .before .loop .inv .2
 
 sub-put-event : tie.Need-sub-put-event Inv-loop μ-loop
-sub-put-event c = let w = end-within (c .before .before .before .before .before .before .before .before .before .args .bytes .now) (c .before .before .before .before .before .loop .first) (c .before .before .data-length .result) (c .before .before .before .before .before .loop .inv .2) in let e = c .before .end-of .ensures in omega arith
+sub-put-event c = let l = c .before .before .before .before .before .loop in let w = end-within (c .before .before .before .before .before .before .before .before .before .args .bytes .now) (l .first) (c .before .before .data-length .result) (l .inv .2) in let e = c .before .end-of .ensures in omega arith
 
 part-put-event-start : tie.Need-part-put-event-start Inv-loop μ-loop
-part-put-event-start c = let w = end-within (c .before .before .before .before .before .before .before .before .before .args .bytes .now) (c .before .before .before .before .before .loop .first) (c .before .before .data-length .result) (c .before .before .before .before .before .loop .inv .2) in let e = c .before .end-of .ensures in omega arith
+part-put-event-start c = let l = c .before .before .before .before .before .loop in let w = end-within (c .before .before .before .before .before .before .before .before .before .args .bytes .now) (l .first) (c .before .before .data-length .result) (l .inv .2) in let e = c .before .end-of .ensures in omega arith
 
 part-put-event-end : tie.Need-part-put-event-end Inv-loop μ-loop
-part-put-event-end c = let w = end-within (c .before .before .before .before .before .before .before .before .before .args .bytes .now) (c .before .before .before .before .before .loop .first) (c .before .before .data-length .result) (c .before .before .before .before .before .loop .inv .2) in let e = c .before .end-of .ensures in omega arith
+part-put-event-end c = let l = c .before .before .before .before .before .loop in let w = end-within (c .before .before .before .before .before .before .before .before .before .args .bytes .now) (l .first) (c .before .before .data-length .result) (l .inv .2) in let e = c .before .end-of .ensures in omega arith
 
 put-event-requires : tie.Need-put-event-requires Inv-loop μ-loop
 put-event-requires c κs = search needs
@@ -66,13 +61,13 @@ loop-less : tie.Need-loop-less Inv-loop μ-loop
 loop-less c = omega arith
 
 loop-again : tie.Need-loop-again Inv-loop μ-loop
-loop-again c = let w = end-within (c .before .before .before .before .before .before .before .before .before .before .before .before .before .args .bytes .now) (c .before .before .before .before .before .before .before .before .before .loop .first) (c .before .before .before .before .before .before .data-length .result) (c .before .before .before .before .before .before .before .before .before .loop .inv .2) in let e = c .before .before .before .before .before .end-of .ensures in (omega arith, omega arith, omega arith, rest-more (c .before .before .before .before .before .before .before .before .before .before .before .before .before .args .events .now) (c .before .before .before .before .before .before .before .before .before .before .before .before .before .args .bytes .now) (c .before .before .before .before .before .before .before .before .before .loop .k) (c .before .before .before .before .before .before .before .before .before .loop .i) (c .before .before .before .before .before .before .before .before .before .loop .first) (c .before .before .before .before .before .before .before .before .before .loop .inv .1) (c .before .before .before .before .before .before .before .before .before .loop .inv .2) (c .before .before .before .before .before .before .before .before .before .loop .inv .3) (c .before .before .before .before .before .before .data-length .result) (c .before .before .before .before .before .end-of .result) (c .before .before .before .before .before .before .data-length .ensures) (c .before .before .before .before .before .end-of .ensures), puts-entry 2 (eventValue (c .before .before .before .before .before .before .before .before .before .before .before .before .before .args .edition)) (descriptionNo (c .before .before .before .before .before .before .before .before .before .before .before .before .before .args .events .now) (c .before .before .before .before .before .before .before .before .before .before .before .before .before .args .bytes .now)) (c .before .before .before .before .before .before .before .before .before .loop .i) (c .before .before .before .before .before .before .before .before .before .loop .inv .4) (puts-description (c .before .before .before .before .before .before .before .before .before .before .before .before .before .args .events .now) (c .before .before .before .before .before .before .before .before .before .before .before .before .before .args .bytes .now) (c .before .before .before .before .before .before .before .before .before .loop .k) (c .before .before .before .before .before .before .before .before .before .loop .i) (c .before .before .before .before .before .before .before .before .before .loop .first) (c .before .before .before .before .before .before .before .before .before .loop .inv .1) (c .before .before .before .before .before .before .before .before .before .loop .inv .2) (c .before .before .before .before .before .before .before .before .before .loop .inv .3) (c .before .before .before .before .before .before .data-length .result) (c .before .before .before .before .before .end-of .result) (c .before .before .before .before .before .before .data-length .ensures) (c .before .before .before .before .before .end-of .ensures) (c .before .before .before .before .before .before .before .before .before .before .before .before .before .args .edition) (c .before .before .put-event .ensures)))
+loop-again c = let a = c .before .before .before .before .before .before .before .before .before .before .before .before .before .args in let l = c .before .before .before .before .before .before .before .before .before .loop in let w = end-within (a .bytes .now) (l .first) (c .before .before .before .before .before .before .data-length .result) (l .inv .2) in let e = c .before .before .before .before .before .end-of .ensures in (omega arith, omega arith, omega arith, rest-more (a .events .now) (a .bytes .now) (l .k) (l .i) (l .first) (l .inv .1) (l .inv .2) (l .inv .3) (c .before .before .before .before .before .before .data-length .result) (c .before .before .before .before .before .end-of .result) (c .before .before .before .before .before .before .data-length .ensures) (c .before .before .before .before .before .end-of .ensures), puts-entry 2 (eventValue (a .edition)) (descriptionNo (a .events .now) (a .bytes .now)) (l .i) (l .inv .4) (puts-description (a .events .now) (a .bytes .now) (l .k) (l .i) (l .first) (l .inv .1) (l .inv .2) (l .inv .3) (c .before .before .before .before .before .before .data-length .result) (c .before .before .before .before .before .end-of .result) (c .before .before .before .before .before .before .data-length .ensures) (c .before .before .before .before .before .end-of .ensures) (a .edition) (c .before .before .put-event .ensures)))
 
 same-length : tie.Need-same-length Inv-loop μ-loop
 same-length c = c .before .loop .inv .4 .size
 
 returns : tie.Need-returns Inv-loop μ-loop
-returns c = puts-run-all 2 (eventValue (c .before .before .before .before .before .args .edition)) (descriptionNo (c .before .before .before .before .before .args .events .now) (c .before .before .before .before .before .args .bytes .now)) (c .before .loop .i) (c .before .before .before .before .before .args .n) (omega arith) (c .before .loop .inv .4)
+returns c = let a = c .before .before .before .before .before .args in let l = c .before .loop in puts-run-all 2 (eventValue (a .edition)) (descriptionNo (a .events .now) (a .bytes .now)) (l .i) (a .n) (omega arith) (l .inv .4)
 
 pub put-events-spec : {M : Type 1} → statement M
 put-events-spec =

@@ -6,9 +6,6 @@ use Rattle.encode.proofs.IndexLaws.{index-none, index-some}
 use borrow.Author.Needs.{needs}
 use Rattle.writer.proofs.index_of.Statement.{statement}
 use Rattle.writer.proofs.index_of.Tie as tie
-use Rattle.writer.proofs.index_of.Reads as reads
-use Rattle.writer.proofs.index_of.Lts as lts
-use Rattle.writer.proofs.same_before.Reads as same-before-reads
 
 returns : tie.Need-returns
 unfolding noEntry _or_

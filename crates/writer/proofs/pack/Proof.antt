@@ -2,9 +2,6 @@
 use borrow.Author.Needs.{needs}
 use Rattle.writer.proofs.pack.Statement.{statement}
 use Rattle.writer.proofs.pack.Tie as tie
-use Rattle.writer.proofs.pack.Reads as reads
-use Rattle.writer.proofs.pack.Lts as lts
-use Rattle.answer.proofs.word.Reads as word-reads
 
 enum-known-w : tie.Need-enum-known-w
 enum-known-w c = search needs

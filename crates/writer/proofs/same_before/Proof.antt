@@ -7,11 +7,6 @@ use borrow.Author.Needs.{needs}
 use Rattle.writer.proofs.CountedLaws.{one-most, Counted, counted-none, counted-turn, counted-all}
 use Rattle.writer.proofs.same_before.Statement.{statement}
 use Rattle.writer.proofs.same_before.Tie as tie
-use Rattle.writer.proofs.same_before.Reads as reads
-use Rattle.writer.proofs.same_before.Lts as lts
-use Rattle.format.proofs.field.byte.Reads as byte-reads
-use Rattle.format.proofs.field.length_at.Reads as length-at-reads
-use Rattle.writer.proofs.one_if_same.Reads as one-if-same-reads
 
 abbrev Inv-loop : tie.InvT-loop
 Inv-loop s p tag i₀ q₀ i q = Counted s p i q
@@ -56,10 +51,10 @@ loop-less : tie.Need-loop-less Inv-loop μ-loop
 loop-less c = omega arith
 
 loop-again : tie.Need-loop-again Inv-loop μ-loop
-loop-again c = counted-turn (c .before .before .before .before .before .before .before .args .s .now) (c .before .before .before .before .before .before .before .args .p) (c .before .before .before .before .loop .i) (c .before .before .before .before .loop .q) (c .before .one-if-same .result) _ (c .before .before .byte2 .result) (c .before .before .before .before .before .byte .result) (c .length-at .result) (c .before .before .before .before .loop .inv) (c .before .before .before .loop-test .taken) (c .before .before .byte2 .ensures) (c .before .before .before .before .before .byte .ensures) (c .before .one-if-same .ensures) (c .length-at .ensures) refl
+loop-again c = let a = c .before .before .before .before .before .before .before .args in counted-turn (a .s .now) (a .p) (c .before .before .before .before .loop .i) (c .before .before .before .before .loop .q) (c .before .one-if-same .result) _ (c .before .before .byte2 .result) (c .before .before .before .before .before .byte .result) (c .length-at .result) (c .before .before .before .before .loop .inv) (c .before .before .before .loop-test .taken) (c .before .before .byte2 .ensures) (c .before .before .before .before .before .byte .ensures) (c .before .one-if-same .ensures) (c .length-at .ensures) refl
 
 returns : tie.Need-returns Inv-loop μ-loop
-returns c = counted-all (c .before .before .before .before .args .s .now) (c .before .before .before .before .args .p) (c .before .loop .i) (c .before .loop .q) (c .before .loop .inv) (c .loop-test .left)
+returns c = let a = c .before .before .before .before .args in counted-all (a .s .now) (a .p) (c .before .loop .i) (c .before .loop .q) (c .before .loop .inv) (c .loop-test .left)
 
 pub same-before-spec : {M : Type 1} → statement M
 same-before-spec =

@@ -6,11 +6,6 @@ use Rattle.writer.proofs.WrittenLaws.{wrote-refused, wrote-short, wrote
 use borrow.Author.Needs.{needs}
 use Rattle.writer.proofs.tell.Statement.{statement}
 use Rattle.writer.proofs.tell.Tie as tie
-use Rattle.writer.proofs.tell.Reads as reads
-use Rattle.writer.proofs.tell.Lts as lts
-use Rattle.puts.proofs.put_bytes.Reads as put-bytes-reads
-use Rattle.sheet.proofs.reader.read.Reads as read-reads
-use Rattle.writer.proofs.index_of.Reads as index-of-reads
 
 read-requires : tie.Need-read-requires
 read-requires c κs = search needs
@@ -25,7 +20,7 @@ enum-told : tie.Need-enum-told
 enum-told c = search needs
 
 returns : tie.Need-returns
-returns c = wrote-short (c .before .before .before .before .before .before .args .s .now) (c .before .before .before .before .before .before .args .out .now) _ ((rw (c .before .enum-told .given .1) at (c .before .before .before .read .ensures)) .says) (c .if1 .taken)
+returns c = let a = c .before .before .before .before .before .before .args in wrote-short (a .s .now) (a .out .now) _ ((rw (c .before .enum-told .given .1) at (c .before .before .before .read .ensures)) .says) (c .if1 .taken)
 
 put-bytes-requires : tie.Need-put-bytes-requires
 put-bytes-requires c κs = search needs
@@ -34,13 +29,13 @@ cast-t15 : tie.Need-cast-t15
 cast-t15 c = let m = puts-most (c .before .before .put-bytes .ensures) in let k = c .before .before .before .before .before .before .before .before .before .before .pre in omega arith
 
 returns-2 : tie.Need-returns-2
-returns-2 c = wrote-refused (c .before .before .before .before .before .before .before .args .s .now) (c .before .before .before .before .before .before .before .args .out .now) _ _ _ ((rw (c .before .before .reading .given .1) at (c .before .before .before .before .read .ensures)) .says) (c .index-of .ensures)
+returns-2 c = let a = c .before .before .before .before .before .before .before .args in wrote-refused (a .s .now) (a .out .now) _ _ _ ((rw (c .before .before .reading .given .1) at (c .before .before .before .before .read .ensures)) .says) (c .index-of .ensures)
 
 same-length : tie.Need-same-length
 same-length c = search needs
 
 returns-3 : tie.Need-returns-3
-returns-3 c = wrote-whole (c .before .before .before .before .before .before .before .before .before .before .args .s .now) (c .before .before .before .before .before .before .before .before .before .before .args .out .now) _ _ _ ((rw (c .before .before .before .before .before .enum-told .given .1) at (c .before .before .before .before .before .before .before .read .ensures)) .says) (c .before .before .before .before .if1 .left) (c .before .before .put-bytes .ensures)
+returns-3 c = let a = c .before .before .before .before .before .before .before .before .before .before .args in wrote-whole (a .s .now) (a .out .now) _ _ _ ((rw (c .before .before .before .before .before .enum-told .given .1) at (c .before .before .before .before .before .before .before .read .ensures)) .says) (c .before .before .before .before .if1 .left) (c .before .before .put-bytes .ensures)
 
 pub tell-spec : {M : Type 1} → statement M
 tell-spec =

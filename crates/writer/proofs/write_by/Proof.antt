@@ -6,10 +6,6 @@ use Rattle.writer.proofs.WrittenLaws.{wrote-long, wrote-same, composed-
 use borrow.Author.Needs.{needs}
 use Rattle.writer.proofs.write_by.Statement.{statement}
 use Rattle.writer.proofs.write_by.Tie as tie
-use Rattle.writer.proofs.write_by.Reads as reads
-use Rattle.writer.proofs.write_by.Lts as lts
-use Rattle.compose.proofs.compose.Reads as compose-reads
-use Rattle.writer.proofs.tell.Reads as tell-reads
 
 compose-requires : tie.Need-compose-requires
 compose-requires c κs = search needs

@@ -1,5 +1,5 @@
 -- The laws of specs/Encode.antt and specs/Table.antt. Assumes nothing.
---     run-snoc                      one entry more
+--     run-snoc, run-each            one entry more; of a mapped list
 --     length-field                  the bytes of a field
 --     field-back                    a short field of a sheet is the field of its tag and value
 --     event-back, event-clean-back, event-short     an event's value without a fault is the value of its description, and is short
@@ -45,6 +45,11 @@ module _ {A : Type 0} (tag : ℕ) (value : A → List ℕ) where
   unfolding run
   run-snoc [] a = append-nil (field tag (value a))
   run-snoc (b ∷ l) a = ap (λ (m : List ℕ). field tag (value b) ++ m) (run-snoc l a) ∙ sym (append-assoc (field tag (value b)) (run tag value l) (field tag (value a)))
+
+pub run-each : {A B : Type 0} (tag : ℕ) (f : A → B) (value : B → List ℕ) (l : List A) → run tag value (each f l) ≡ run tag (λ (a : A). value (f a)) l
+unfolding run each
+run-each tag f value [] = refl
+run-each tag f value (a ∷ l) = ap (λ (m : List ℕ). field tag (value (f a)) ++ m) (run-each tag f value l)
 
 -- ---- a field
 

@@ -5,3 +5,6 @@ pub mod ReadBack
 pub mod IndexLaws
 pub mod PlaceLaws
 pub mod TearLaws
+pub mod WellEventLaws
+pub mod WellWritten
+pub mod ShortLaws

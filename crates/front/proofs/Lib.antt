@@ -9,7 +9,6 @@ pub mod SettledLaws
 pub mod Steps
 pub mod DataLaws
 pub mod LaidLaws
-pub mod RowsLaws
 pub mod SheetLaws
 pub mod Examples
 pub mod StoredLaws

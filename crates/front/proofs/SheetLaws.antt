@@ -32,7 +32,7 @@ use Rattle.front.specs.Tabled.{Slotted, hbOf, foundOf, Held}
 use Rattle.front.specs.Steps.{Stored}
 use Rattle.front.proofs.TabledLaws.{slotted-one, tabled, owned}
 use Rattle.front.proofs.LaidLaws.{laid-tabled, laid-agents, laid-rowed, laid-seen, laid-paired, pairs-few}
-use Rattle.front.proofs.RowsLaws.{rows-256}
+use Rattle.parse.proofs.CountLaws.{rows-few as eight-each}
 use Rattle.front.proofs.BarredLaws.{barred}
 use Rattle.front.proofs.SettledLaws.{settled}
 use Rattle.front.proofs.Steps.{happens-before, rules}
@@ -54,7 +54,7 @@ module _ {s : List ℕ} {x : Counts} {at : List ℕ} (laid : Laid s x at) (well 
       let c = sl .count in
       let f = sl .few in
       let r = rows-count s (x .head .edition) (x .«rows_at») (x .rows) in
-      let k = rows-256 (execution s x at) well (omega arith) in
+      let k = eight-each (execution s x at) well in
       omega arith
 
   pub sheet-stored : Stored (execution s x at) t (x .events) q (x .rows) p (x .pairs)

@@ -3,16 +3,13 @@
 --     slices-whole                                      the slices
 --     events-long, data-long, rows-long, pairs-long     their lengths
 use mathlib.Core.Path.{_≡_, refl, sym, ap, _∙_, subst}
-use mathlib.Core.Bool.{cond}
 use mathlib.Core.List.{List, [], _∷_, _++_, map}
-use Prim.Native.Nat.{ℕ, zero, suc, _+_, _*_, _<_, _≤_}
+use Prim.Native.Nat.{ℕ, suc, _*_, _<_, _≤_}
 use native.Mathlib.Omega.{arith}
-use lib.Dec.{eqb}
 use lib.ListN.{length, getD, take, length-append}
 use lib.Seq.{getD-take, length-take-le}
-use Rattle.basis.specs.Test.{_or_, each}
+use Rattle.basis.specs.Test.{each}
 use Rattle.format.specs.declared.Head.{Head}
-use Rattle.format.specs.Shape.{reads, writes}
 use Rattle.format.specs.Event.{Access}
 use Rattle.format.specs.Execution.{event}
 use Rattle.format.specs.Field.{restAt}
@@ -29,20 +26,11 @@ use Rattle.encode.specs.Encode.{headValue, rowValue, pairValue}
 use Rattle.encode.specs.Lent.{descriptionBytes}
 use Rattle.encode.specs.Lend.{eight, dataOf, flat, slicesOf}
 use Rattle.encode.proofs.LendLaws.{flat-length}
+use Rattle.encode.proofs.WellEventLaws.{well-data}
 use Rattle.slices.specs.Sliced.{eightAt, dataBytesAt, eventsSlice, dataSlice, rowsSlice, pairsSlice, sum, sizeAt, dataSum}
 use Rattle.lend.specs.Lending.{five}
 
 -- ---- one event
-
--- what was seen and written are as long as the data of the kind
-by-kind : (k w m n : ℕ) → 1 ≤ k → k ≤ 4 → (k ≡ 4 → w ≡ 0) → m ≡ cond (eqb k 1 or eqb k 3) w 0 → n ≡ cond (eqb k 2 or eqb k 3) w 0 → m + n ≡ cond (eqb k 3) (w + w) w
-unfolding _or_
-by-kind zero w m n a b z p q = absurd (omega arith)
-by-kind (suc zero) w m n a b z p q = omega arith
-by-kind (suc (suc zero)) w m n a b z p q = omega arith
-by-kind (suc (suc (suc zero))) w m n a b z p q = omega arith
-by-kind (suc (suc (suc (suc zero)))) w m n a b z p q = let y = z refl in omega arith
-by-kind (suc (suc (suc (suc (suc k))))) w m n a b z p q = absurd (omega arith)
 
 module _ (s : List ℕ) (h : Head) (p : ℕ) (w : WellEvent h (eventAt s (h .edition) p)) where
   abbrev v : List ℕ
@@ -57,11 +45,7 @@ module _ (s : List ℕ) (h : Head) (p : ℕ) (w : WellEvent h (eventAt s (h .edi
       (subst (λ (a : Access). a .shape .kind ≡ 4 → a .shape .width ≡ 0) is (λ k. w .marker k .2))
 
   size-here : length (seenOf (h .edition) v ++ writtenOf (h .edition) v) ≡ sizeAt s (h .edition) p
-  unfolding dataBytes reads writes
-  size-here =
-      subst (λ (a : Access). length (a .seen ++ a .written) ≡ dataBytes (a .shape)) is
-      (length-append (w .access .seen) (w .access .written)
-      ∙ by-kind (w .access .shape .kind) (w .access .shape .width) (length (w .access .seen)) (length (w .access .written)) (w .kind .0) (w .kind .1) (λ k. w .marker k .2) (w .seen) (w .written))
+  size-here = subst (λ (a : Access). length (a .seen ++ a .written) ≡ dataBytes (a .shape)) is (well-data h (eventAt s (h .edition) p) w)
 
   eight-here : eight (describe (eventAt s (h .edition) p)) ≡ eightAt s (h .edition) p
   unfolding describe

@@ -4,6 +4,7 @@ pub mod LackLaws
 pub mod AppearLaws
 pub mod LadderLaws
 pub mod PromiseLaws
+pub mod CountLaws
 pub mod DescribedLaws
 pub mod FormedLaws
 pub mod FramedLaws

@@ -12,6 +12,7 @@ use lib.Seq.{take-append-seam, drop-append-seam}
 use Rattle.format.specs.Limits.{maxBytes}
 use Rattle.format.specs.Execution.{Execution}
 use Rattle.parse.specs.Parse.{Parsed, refused, whole, parse}
+use Rattle.parse.proofs.PromiseLaws.{promise}
 use Rattle.parse.proofs.RefusalLaws.{refusal-low}
 use Rattle.parse.proofs.WellSheetLaws.{well-accepted, accepted-well}
 use Rattle.answer.specs.Read.{kindIn, numberIn, placeIn}
@@ -24,11 +25,12 @@ use Rattle.encode.proofs.WrittenBack.{written-back}
 use Rattle.encode.proofs.ReadBack.{read-back}
 use Rattle.encode.proofs.PlaceLaws.{refused-at, index-below}
 use Rattle.encode.proofs.TearLaws.{tear-refused}
+use Rattle.encode.proofs.ShortLaws.{well-written}
 use Rattle.writer.specs.declared.Written.{Written}
 use Rattle.writer.specs.declared.Written.the-variants.{Refused, Sheet}
 use Rattle.writer.specs.Written.{toldBy, told, left, Wrote}
 use Rattle.writer.specs.Word.{writtenWord, writtenIn}
-use Rattle.writer.specs.Demands.{Agree, ReadsBack, WrittenBack, WritesBack, Why, by-reader, no-room, Refuses, Numbers, TearRefused, FitsWord}
+use Rattle.writer.specs.Demands.{Agree, ReadsBack, WrittenBack, WritesBack, WritesExactly, Why, by-reader, no-room, Refuses, Numbers, RoomEnough, TearRefused, FitsWord}
 
 pub agree : Agree
 agree s entry r q f g a b =
@@ -72,6 +74,10 @@ writes-back s x entry r exit well h w =
     w .answer ∙ ap (λ (u : List ℕ). told u (length entry)) q ∙ ap (toldBy s (length entry)) e
     ∙ ap (λ (b : Bool). cond b (Refused 15 0) (Sheet (length s))) (le-ltb (length entry) (length s) h) in
     (a, w .buffer ∙ ap (λ (u : Written). left u (encode (tableOf x)) entry) a ∙ ap (λ (u : List ℕ). u ++ drop (length s) entry) q)
+
+pub writes-exactly : WritesExactly
+writes-exactly t x =
+    ((λ e. (promise (encode t) x e, read-back t x e)), (λ w. subst (λ (u : Table). parse (encode u) ≡ whole x) (w .1) (well-written x (w .0))))
 
 pub refuses : Refuses
 unfolding told
@@ -122,6 +128,14 @@ numbers t entry n i exit w = go (refuses t entry n i exit w .0)
     go : {m j : ℕ} → Why t (length entry) m j → Number m
     go (by-reader p e k) = names-number t k
     go (no-room x e h) = inr (inr (inr refl))
+
+-- 15 is of a whole sheet, which has at most 4,096 bytes
+pub room-enough : RoomEnough
+room-enough t entry i exit h w = go (refuses t entry 15 i exit w .0) refl
+  where
+    go : {n j : ℕ} → Why t (length entry) n j → n ≡ 15 → ⊥
+    go (by-reader {n} p e k) q = let b = refusal-low (encode t) n p e .0 in omega arith
+    go (no-room x e r) q = let l = accepted-well (encode t) x e .short in omega arith
 
 pub tears : TearRefused
 tears h events d e n = tear-refused h events d n

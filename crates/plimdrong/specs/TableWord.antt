@@ -17,6 +17,6 @@ pub record TableWord (sheet : List ℕ) (entry : Slices) (r : ℕ) (exit : Slice
   pub lending : Lending sheet entry answer exit
   pub word : r ≡ lentWord answer
 
--- PLIMDRONG_EVENTS, PLIMDRONG_DATA, PLIMDRONG_ROWS, PLIMDRONG_PAIRS
+-- PLIMDRONG_TABLE_EVENTS, PLIMDRONG_TABLE_DATA, PLIMDRONG_TABLE_ROWS, PLIMDRONG_TABLE_PAIRS
 abbrev pub frontsIn : ℕ → Slices → Slices
 frontsIn w b = fronts b (numberIn w) (w % 2 ^ 12) (w / 2 ^ 12 % 2 ^ 12) (w / 2 ^ 24 % 2 ^ 8)

@@ -26,11 +26,11 @@ use Rattle.format.specs.declared.Pair.{Pair}
 use Rattle.format.specs.Execution.{Execution}
 use Rattle.format.specs.Layout.{editionOf, headBytes, eventBytes, dataBytes, rowBytes, pairBytes, agentOf, shapeOf, eventOf}
 use Rattle.content.specs.Content.{headFits, eventFits, roomFor, rowFits, pairFits}
-use Rattle.content.proofs.ContentLaws.{within-holds}
 use Rattle.parse.specs.Parse.{Parsed, refused, whole, State, placeOf, blank, allowed, headFault, eventFaultBy, rowFault, pairFault, valueFault, valueFaultBy, faultAt, faultBy, taken, after, lowestLacking, finish, fieldsFrom, parse}
 use Rattle.parse.proofs.RefusalLaws.{refusal-number}
 use Rattle.parse.proofs.ParseLaws.{Finished, headless, none-reads as no-reads, absent, rowless, complete, finished, at-end, at-fault, at-field}
 use Rattle.parse.proofs.LackLaws.{lacking-there}
+use Rattle.parse.proofs.WellSheetLaws.{allows-to}
 use Rattle.encode.specs.Table.{Description, Table, describe, tableOf}
 use Rattle.encode.specs.Encode.{field, headValue, eventValue, rowValue, pairValue, run, encode}
 use Rattle.encode.specs.Place.{beforeEvents, beforeRows, beforePairs, eventPlace, rowPlace, pairPlace, OfEvent, OfPair, Names, too-long, at-head, none-reads, no-event, at-event, at-row, at-pair}
@@ -230,18 +230,6 @@ module _ {A : Type 0} (t : Table) (s base rest : List ℕ) (len : length s ≤ m
 
 -- ---- the whole table
 
-allows-event : (n : ℕ) → 1 ≤ n → n ≤ 2 → allowed n 2 ≡ true
-unfolding allowed
-allows-event n a b = within-holds 1 2 n a b
-
-allows-row : (n : ℕ) → 1 ≤ n → n ≤ 3 → allowed n 3 ≡ true
-unfolding allowed
-allows-row n a b = within-holds 1 3 n a b
-
-allows-pair : (n : ℕ) → 1 ≤ n → n ≤ 4 → allowed n 4 ≡ true
-unfolding allowed
-allows-pair n a b = within-holds 1 4 n a b
-
 abbrev table : Head → List Description → List Row → List Pair → Table
 table h events rows pairs = record { head = h; events = events; rows = rows; pairs = pairs }
 
@@ -347,20 +335,20 @@ module _ (t : Table) where
     at-pairs : (k : ℕ) (st : State) → 1 ≤ st .tag → st .tag ≤ 3 → Read t (table (t .head) (t .events) (t .rows) []) (upTo t (length (t .events))) st
         → Good t (fieldsFrom (encode t) k (length (beforePairs t)) st)
     at-pairs k st a b g =
-        walk-all t (encode t) (beforePairs t) [] len 4 pairValue (t .pairs) (table (t .head) (t .events) (t .rows)) (λ _. upTo t (length (t .events))) (omega arith) allows-pair faulty-pair
+        walk-all t (encode t) (beforePairs t) [] len 4 pairValue (t .pairs) (table (t .head) (t .events) (t .rows)) (λ _. upTo t (length (t .events))) (omega arith) (λ n. allows-to 4 n (inr (inr refl))) faulty-pair
         (step-pair (t .head) (t .events) (t .rows)) (λ done p l f e. e) at-last all-pairs k st a (omega arith) g
 
     at-rows : (k : ℕ) (st : State) → 1 ≤ st .tag → st .tag ≤ 2 → Read t (table (t .head) (t .events) [] []) (upTo t (length (t .events))) st
         → Good t (fieldsFrom (encode t) k (length (beforeRows t)) st)
     at-rows k st a b g =
         walk-all t (encode t) (beforeRows t) (run 4 pairValue (t .pairs)) len 3 (rowValue edition) (t .rows) (λ (l : List Row). table (t .head) (t .events) l []) (λ _. upTo t (length (t .events)))
-        (omega arith) allows-row faulty-row (step-row (t .head) (t .events)) (λ done r l f e. e) at-pairs whole-rows k st a (omega arith) g
+        (omega arith) (λ n. allows-to 3 n (inr (inl refl))) faulty-row (step-row (t .head) (t .events)) (λ done r l f e. e) at-pairs whole-rows k st a (omega arith) g
 
     at-events : (k : ℕ) (st : State) → 1 ≤ st .tag → st .tag ≤ 2 → Read t (table (t .head) [] [] []) [] st → Good t (fieldsFrom (encode t) k (length (beforeEvents t)) st)
     unfolding each from
     at-events k st a b g =
         walk-all t (encode t) (beforeEvents t) (run 3 (rowValue edition) (t .rows) ++ run 4 pairValue (t .pairs)) len 2 (eventValue edition) (t .events) (λ (l : List Description). table (t .head) l [] [])
-        (λ (l : List Description). upTo t (length l)) (omega arith) allows-event faulty-event (step-event (t .head)) (more-events t) at-rows (sheet-split t) k st a b g
+        (λ (l : List Description). upTo t (length l)) (omega arith) (λ n. allows-to 2 n (inl refl)) faulty-event (step-event (t .head)) (more-events t) at-rows (sheet-split t) k st a b g
 
     head-first : (k : ℕ) → Good t (fieldsFrom (encode t) k 0 blank)
     unfolding allowed tableOf taken each

@@ -20,10 +20,10 @@ use Rattle.format.specs.Limits.{maxBytes}
 use Rattle.format.specs.Event.{Event, nobody}
 use Rattle.format.specs.Execution.{Execution, eventNo, event}
 use Rattle.format.specs.Layout.{headBytes, rowBytes, eventOf}
-use Rattle.content.proofs.ContentLaws.{within-holds}
 use Rattle.parse.specs.Parse.{whole, State, blank, allowed, valueFault, valueFaultBy, faultAt, taken, after, fieldsFrom, parse}
 use Rattle.parse.specs.Promise.{WellEvent, WellFormed}
 use Rattle.parse.proofs.ParseLaws.{at-start, at-end, at-next}
+use Rattle.parse.proofs.WellSheetLaws.{allows-to}
 use Rattle.parse.proofs.FormedLaws.{Front, head-passes, event-passes, row-passes, pair-passes, ends}
 use Rattle.encode.specs.Table.{describe, tableOf}
 use Rattle.encode.specs.Encode.{field, headValue, eventValue, rowValue, pairValue, run, encode}
@@ -96,12 +96,6 @@ module _ {A : Type 0} (x : Execution) (s base rest : List ℕ) (len : length s �
 
 abbrev so-far : Head → List Event → List Row → List Pair → Execution
 so-far h events rows pairs = record { head = h; events = events; rows = rows; pairs = pairs }
-
-allows-to : (tag n : ℕ) → (tag ≡ 2) ⊎ (tag ≡ 3) ⊎ (tag ≡ 4) → 1 ≤ n → n ≤ tag → allowed n tag ≡ true
-unfolding allowed
-allows-to tag n (inl e) a b = rw e (within-holds 1 2 n a (omega arith))
-allows-to tag n (inr (inl e)) a b = rw e (within-holds 1 3 n a (omega arith))
-allows-to tag n (inr (inr e)) a b = rw e (within-holds 1 4 n a (omega arith))
 
 -- an entry and what stands before it
 here-front : {A : Type 0} (done : List A) (a : A) (todo every : List A) → done ++ (a ∷ todo) ≡ every → Front (done ++ (a ∷ [])) every

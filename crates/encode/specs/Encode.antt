@@ -1,4 +1,4 @@
--- The bytes that a table stands for (01, "The sheet"; 02 §2 and §4), by the head's edition. Laws: proofs/EncodeLaws.antt.
+-- The bytes that a table stands for (01, "The sheet"; 02 §2 and §4), by the head's edition. Laws: proofs/EncodeLaws.antt, ReadBack.antt, WrittenBack.antt, ShortLaws.antt, TearLaws.antt.
 --     field tag v                   a field: "tag (1 byte), length (2 bytes, most significant first), value"
 --     kindByte, headValue, eventValue, rowValue, pairValue     the values of fields
 --     run tag value l               a field for each entry of a list

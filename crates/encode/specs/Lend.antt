@@ -1,5 +1,5 @@
 -- A table as the byte slices that lend it: the other way of specs/Lent.antt. Law: proofs/LendLaws.antt.
---     Slices          head, events, data, rows, pairs: the slices of a table, or buffers for them
+--     Slices, five    head, events, data, rows, pairs: the slices of a table, or buffers for them
 --     eight d         the eight bytes of a description: agent, kind, mode, start, width, tear, the number of its data bytes
 --     flat f l        the bytes of all entries of a list, one after another
 --     slicesOf t      the slices of a table
@@ -21,6 +21,9 @@ pub record Slices : Type 0 where
   pub rows : List ℕ
   pub pairs : List ℕ
 
+abbrev pub five : List ℕ → List ℕ → List ℕ → List ℕ → List ℕ → Slices
+five head events bytes rows pairs = record { head = head; events = events; bytes = bytes; rows = rows; pairs = pairs }
+
 abbrev pub eight : Description → List ℕ
 eight d = d .agent ∷ d .kind ∷ d .mode ∷ d .start ∷ d .width ∷ d .tear ∷ length (d .bytes) / 256 ∷ length (d .bytes) % 256 ∷ []
 
@@ -33,14 +36,7 @@ module _ {A : Type 0} (f : A → List ℕ) where
   flat (a ∷ l) = f a ++ flat l
 
 abbrev pub slicesOf : Table → Slices
-slicesOf t =
-    record {
-      head = headValue (t .head);
-      events = flat eight (t .events);
-      bytes = flat dataOf (t .events);
-      rows = flat (rowValue (t .head .edition)) (t .rows);
-      pairs = flat pairValue (t .pairs);
-    }
+slicesOf t = five (headValue (t .head)) (flat eight (t .events)) (flat dataOf (t .events)) (flat (rowValue (t .head .edition)) (t .rows)) (flat pairValue (t .pairs))
 
 abbrev pub tableIn : Slices → Table
 tableIn l = lent (l .head) (l .events) (l .bytes) (l .rows) (l .pairs)

@@ -1,6 +1,6 @@
 -- The table that a suite lends as byte slices: head, events, data, rows, pairs. A byte that a slice lacks counts as 0, a rest shorter than an entry
 -- is no entry, and what the head has besides is not looked at. Head, rows and pairs stand as the values of their fields do. docs/SHEET.md draws it.
--- The other way: specs/Lend.antt. Laws: proofs/LentLaws.antt.
+-- The other way: specs/Lend.antt. Laws: proofs/LendLaws.antt; what the code puts of it: crates/compose/proofs/ComposeLaws.antt.
 --     part gap l i                  entry number i of a slice of entries of `gap` bytes
 --     entries gap l                 all of them
 --     descriptionBytes              the bytes of an event's description

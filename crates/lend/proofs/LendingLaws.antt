@@ -20,13 +20,13 @@ use Rattle.sheet.specs.Handed.{HandedWhole}
 use Rattle.encode.specs.Table.{tableOf}
 use Rattle.encode.specs.Encode.{headValue}
 use Rattle.encode.specs.Lent.{descriptionBytes}
-use Rattle.encode.specs.Lend.{Slices, slicesOf}
-use Rattle.puts.specs.Put.{Puts}
+use Rattle.encode.specs.Lend.{Slices, slicesOf, five}
+use Rattle.puts.specs.Put.{Puts, overlaid}
 use Rattle.puts.proofs.PutLaws.{puts-put, put-front}
 use Rattle.slices.specs.Sliced.{eventsSlice, dataSlice, rowsSlice, pairsSlice, dataSum}
 use Rattle.lend.specs.declared.Lent.{Lent}
 use Rattle.lend.specs.declared.Lent.the-variants.{Refused, Table}
-use Rattle.lend.specs.Lending.{five, noBuffer, shortBy, shortOf, lentBy, heldBy, overlaid, filledBy, Lending}
+use Rattle.lend.specs.Lending.{noBuffer, shortBy, shortOf, lentBy, heldBy, filledBy, Lending}
 use Rattle.lend.proofs.WholeLaws.{slices-whole, events-long, data-long, rows-long, pairs-long}
 
 pub lending-unique : {s : List ℕ} {entry exit exit′ : Slices} {q r : Lent} → Lending s entry q exit → Lending s entry r exit′ → (q ≡ r) × (exit ≡ exit′)

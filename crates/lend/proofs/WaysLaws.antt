@@ -23,11 +23,11 @@ use Rattle.parse.proofs.RefusalLaws.{refusal-number, refusal-low}
 use Rattle.encode.specs.Table.{describe, tableOf}
 use Rattle.encode.specs.Encode.{rowValue, pairValue}
 use Rattle.encode.specs.Lent.{descriptionBytes}
-use Rattle.encode.specs.Lend.{Slices, eight, slicesOf, tableIn}
+use Rattle.encode.specs.Lend.{Slices, eight, slicesOf, tableIn, five}
 use Rattle.encode.proofs.LendLaws.{flat-length, lends}
 use Rattle.lend.specs.declared.Lent.{Lent}
 use Rattle.lend.specs.declared.Lent.the-variants.{Refused, Table}
-use Rattle.lend.specs.Lending.{five, noBuffer, shortOf, filledBy, heldBy, lentBy, Lending}
+use Rattle.lend.specs.Lending.{noBuffer, shortOf, filledBy, heldBy, lentBy, Lending}
 use Rattle.lend.specs.Word.{lentWord}
 use Rattle.lend.specs.Demands.{fronts, TableOf, Short, WordOf}
 use Rattle.lend.proofs.WordLaws.{few-counts, word-parts}

@@ -24,11 +24,10 @@ use Rattle.sheet.specs.Handed.{HandedWhole}
 use Rattle.encode.specs.Table.{describe, tableOf}
 use Rattle.encode.specs.Encode.{headValue, rowValue, pairValue}
 use Rattle.encode.specs.Lent.{descriptionBytes}
-use Rattle.encode.specs.Lend.{eight, dataOf, flat, slicesOf}
+use Rattle.encode.specs.Lend.{eight, dataOf, flat, slicesOf, five}
 use Rattle.encode.proofs.LendLaws.{flat-length}
 use Rattle.encode.proofs.WellEventLaws.{well-data}
 use Rattle.slices.specs.Sliced.{eightAt, dataBytesAt, eventsSlice, dataSlice, rowsSlice, pairsSlice, sum, sizeAt, dataSum}
-use Rattle.lend.specs.Lending.{five}
 
 -- ---- one event
 

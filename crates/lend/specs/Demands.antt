@@ -16,10 +16,10 @@ use Rattle.parse.specs.Parse.{whole, parse}
 use Rattle.answer.specs.Read.{kindIn, numberIn, placeIn}
 use Rattle.encode.specs.Table.{tableOf}
 use Rattle.encode.specs.Lent.{descriptionBytes}
-use Rattle.encode.specs.Lend.{Slices, slicesOf, tableIn}
+use Rattle.encode.specs.Lend.{Slices, slicesOf, tableIn, five}
 use Rattle.lend.specs.declared.Lent.{Lent}
 use Rattle.lend.specs.declared.Lent.the-variants.{Refused, Table}
-use Rattle.lend.specs.Lending.{five, noBuffer, shortOf, Lending}
+use Rattle.lend.specs.Lending.{noBuffer, shortOf, Lending}
 use Rattle.lend.specs.Word.{lentWord}
 
 -- what a caller lends further: of each buffer as much as the answer and the head's edition say

@@ -9,10 +9,10 @@ use lib.ListN.{take, replicate}
 use Rattle.basis.specs.Test.{each}
 use Rattle.parse.specs.Parse.{parse}
 use Rattle.parse.specs.Examples.{example}
-use Rattle.encode.specs.Lend.{Slices}
+use Rattle.encode.specs.Lend.{Slices, five}
 use Rattle.lend.specs.declared.Lent.{Lent}
 use Rattle.lend.specs.declared.Lent.the-variants.{Refused, Table}
-use Rattle.lend.specs.Lending.{five, lentBy, heldBy}
+use Rattle.lend.specs.Lending.{lentBy, heldBy}
 
 pub record Example : Type 0 where
   pub bytes : List ℕ

@@ -1,27 +1,23 @@
 -- The other way of the writer (02 §2: "Reading what was written gives the table back"): the table of a sheet, into lent buffers, for suites that mend
 -- old sheets. `Lent` is the source's own enum: Refused with number and place, Table with the numbers of events, data bytes, rows and pairs.
 -- Laws: proofs/LendingLaws.antt.
---     five head events bytes rows pairs     five buffers
 --     shortOf l b                           the first buffer of b that is shorter than its slice of l; `noBuffer` where none is
---     overlaid piece entry                  a buffer from whose first byte on a piece was put
 --     lentBy, heldBy                        the answer and the buffers, by what the sheet says and what is lent
 --     Lending s entry r exit                r is the answer for the sheet s, and the buffers hold its table
 -- Assumes nothing.
 use mathlib.Core.Path.{_≡_}
 use mathlib.Core.Bool.{cond}
-use mathlib.Core.List.{List, _++_}
+use mathlib.Core.List.{List}
 use Prim.Native.Nat.{ℕ}
 use lib.Dec.{ltb}
-use lib.ListN.{length, drop}
+use lib.ListN.{length}
 use Rattle.format.specs.Execution.{Execution}
 use Rattle.parse.specs.Parse.{Parsed, refused, whole, parse}
 use Rattle.encode.specs.Table.{tableOf}
-use Rattle.encode.specs.Lend.{Slices, slicesOf}
+use Rattle.puts.specs.Put.{overlaid}
+use Rattle.encode.specs.Lend.{Slices, five, slicesOf}
 use Rattle.lend.specs.declared.Lent.{Lent}
 use Rattle.lend.specs.declared.Lent.the-variants.{Refused, Table}
-
-abbrev pub five : List ℕ → List ℕ → List ℕ → List ℕ → List ℕ → Slices
-five head events bytes rows pairs = record { head = head; events = events; bytes = bytes; rows = rows; pairs = pairs }
 
 -- the number that is no buffer's
 abbrev pub noBuffer : ℕ
@@ -52,9 +48,6 @@ lentBy (refused n p) b = Refused n p
 lentBy (whole x) b = answerOf x (shortOf (slicesOf (tableOf x)) b)
 
 -- 02 §2: "bytes after the sheet are unchanged"
-abbrev pub overlaid : List ℕ → List ℕ → List ℕ
-overlaid piece entry = piece ++ drop (length piece) entry
-
 abbrev pub filledBy : Slices → Slices → Slices
 filledBy l b = five (overlaid (l .head) (b .head)) (overlaid (l .events) (b .events)) (overlaid (l .bytes) (b .bytes)) (overlaid (l .rows) (b .rows)) (overlaid (l .pairs) (b .pairs))
 

@@ -8,7 +8,8 @@ ghost use Prim.Native.Nat.{_*_};
 ghost use Rattle.format.specs.Layout.{headBytes, rowBytes, pairBytes};
 ghost use Rattle.encode.specs.Lent.{descriptionBytes};
 ghost use Rattle.sheet.specs.Handed.{HandedWhole};
-ghost use Rattle.lend.specs.Lending.{five, shortBy, Lending};
+ghost use Rattle.encode.specs.Lend.{five};
+ghost use Rattle.lend.specs.Lending.{shortBy, Lending};
 ghost use Rattle.lend.specs.Word.{lentWord};
 
 pub enum Lent {

@@ -3,6 +3,7 @@
 --     accepted-well                 what is accepted is well formed
 --     well-accepted                 what is well formed is accepted
 --     exactly : Exactly             both
+--     allows-to                     a tag behind one that is not above it is allowed
 -- Assumes nothing.
 use mathlib.Core.Path.{_≡_, refl, sym, ap, _∙_}
 use mathlib.Core.Logic.{inl, inr}
@@ -39,7 +40,7 @@ unfolding faultBy
 field-passes s p st i a v =
     passed _ _ _ (le-ltb (length s) (p + fieldBytes) (omega arith)) (passed-non _ _ _ a (passed _ _ _ (le-ltb (length s) (nextAt s p) i) v))
 
-allows-to : (tag last : ℕ) → NoHead tag → 1 ≤ last → last ≤ tag → allowed last tag ≡ true
+pub allows-to : (tag last : ℕ) → NoHead tag → 1 ≤ last → last ≤ tag → allowed last tag ≡ true
 unfolding allowed
 allows-to tag last (inl e) a b = rw e (within-holds 1 2 last a (omega arith))
 allows-to tag last (inr (inl e)) a b = rw e (within-holds 1 3 last a (omega arith))

@@ -3,7 +3,7 @@
 // a 64-bit word: kind * 2^40 + number * 2^32 + 32 bits. Whoever takes a word apart masks the kind to eight bits: bits 48 and up will carry a
 // region. Names and words stay once they have landed (docs/DECISIONS.md, Exports).
 ghost use Rattle.plimdrong.specs.JudgedWord.{JudgedWord};
-ghost use Rattle.lend.specs.Lending.{five};
+ghost use Rattle.encode.specs.Lend.{five};
 ghost use Rattle.plimdrong.specs.WrittenWord.{WrittenWord};
 ghost use Rattle.plimdrong.specs.TableWord.{TableWord};
 

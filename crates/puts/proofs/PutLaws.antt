@@ -19,7 +19,7 @@ use lib.Dec.{ltb}
 use native.Mathlib.Numerals.{add-one}
 use lib.ListN.{length, getD, take, drop, set, length-append, length-set, take-append-drop}
 use lib.Seq.{take-all, take-suc, take-suc-set, drop-set-lt, drop-drop, set-out}
-use Rattle.puts.specs.Put.{Put, step, ending, laid, Puts}
+use Rattle.puts.specs.Put.{Put, step, ending, laid, overlaid, Puts}
 
 pub put-none : (at : ℕ) (l : List ℕ) → Put [] at at l l
 put-none at l = record { size = refl; after = omega arith; written = sym (append-nil (take at l)); rest = refl }
@@ -145,7 +145,7 @@ puts-most {p} {e} {f} {at} {m} a = let i = ending-most p at (length e) in let q 
 pub puts-full : {p e f : List ℕ} {at m : ℕ} → Puts p at m e f → at ≤ length e → length e ≤ at + length p → length e ≤ m
 puts-full {p} {e} {f} {at} {m} a h k = let i = ending-full p at (length e) h k in let q = a .after in omega arith
 
-pub put-front : {p e f : List ℕ} {m : ℕ} → Put p 0 m e f → (m ≡ length p) × (f ≡ p ++ drop (length p) e)
+pub put-front : {p e f : List ℕ} {m : ℕ} → Put p 0 m e f → (m ≡ length p) × (f ≡ overlaid p e)
 put-front {p} {e} {f} {m} a =
     let n : m ≡ length p = (let q = a .after in omega arith) in
     (n, sym (take-append-drop m f) ∙ rw (a .written, a .rest) (ap (λ (k : ℕ). p ++ drop k e) n))

@@ -3,6 +3,7 @@
 --     step size at                     the place after a byte put at `at`: the next one, if this one is in the buffer
 --     ending piece at size             the place after a piece
 --     laid piece at entry              the buffer with a piece, byte by byte; what has no place is not written
+--     overlaid piece entry             a buffer with a piece from its first byte on, and the rest as it was
 --     Puts piece at next entry exit    the same as facts, whatever the room; where there is room, it is Put
 -- Assumes nothing.
 use Prim.Native.Nat.{ℕ, _+_}
@@ -29,6 +30,9 @@ ending (b ∷ p) at size = ending p (step size at) size
 unfoldable pub laid : List ℕ → ℕ → List ℕ → List ℕ
 laid [] at l = l
 laid (b ∷ p) at l = laid p (step (length l) at) (set l at b)
+
+abbrev pub overlaid : List ℕ → List ℕ → List ℕ
+overlaid piece entry = piece ++ drop (length piece) entry
 
 pub record Puts (piece : List ℕ) (at next : ℕ) (entry exit : List ℕ) : Type 0 where
   pub size : length exit ≡ length entry

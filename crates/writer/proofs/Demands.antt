@@ -17,6 +17,7 @@ use Rattle.parse.proofs.RefusalLaws.{refusal-low}
 use Rattle.parse.proofs.WellSheetLaws.{well-accepted, accepted-well}
 use Rattle.answer.specs.Read.{kindIn, numberIn, placeIn}
 use Rattle.answer.proofs.ReadLaws.{kind-in, number-in, place-in}
+use Rattle.puts.specs.Put.{overlaid}
 use Rattle.encode.specs.Table.{Table, tableOf}
 use Rattle.encode.specs.Encode.{encode}
 use Rattle.encode.specs.Index.{indexOf}
@@ -56,7 +57,7 @@ sheet-whole s room n e = go (parse s) refl e
 pub reads-back : ReadsBack
 reads-back t entry n exit w =
     let v = sheet-whole (encode t) (length entry) n (w .answer) in
-    let b : exit ≡ encode t ++ drop (length (encode t)) entry = w .buffer ∙ ap (λ (k : ℕ). encode t ++ drop k entry) (v .2) in
+    let b : exit ≡ encode t ++ drop (length (encode t)) entry = w .buffer in
     let f : take n exit ≡ encode t = ap (λ (k : ℕ). take k exit) (v .2) ∙ ap (take (length (encode t))) b ∙ take-append-seam (encode t) (drop (length (encode t)) entry) in
     let d : drop n exit ≡ drop n entry =
     ap (λ (k : ℕ). drop k exit) (v .2) ∙ ap (drop (length (encode t))) b ∙ drop-append-seam (encode t) (drop (length (encode t)) entry) ∙ ap (λ (k : ℕ). drop k entry) (sym (v .2)) in
@@ -73,7 +74,7 @@ writes-back s x entry r exit well h w =
     let a : r ≡ Sheet (length s) =
     w .answer ∙ ap (λ (u : List ℕ). told u (length entry)) q ∙ ap (toldBy s (length entry)) e
     ∙ ap (λ (b : Bool). cond b (Refused 15 0) (Sheet (length s))) (le-ltb (length entry) (length s) h) in
-    (a, w .buffer ∙ ap (λ (u : Written). left u (encode (tableOf x)) entry) a ∙ ap (λ (u : List ℕ). u ++ drop (length s) entry) q)
+    (a, w .buffer ∙ ap (λ (u : Written). left u (encode (tableOf x)) entry) a ∙ ap (λ (u : List ℕ). overlaid u entry) q)
 
 pub writes-exactly : WritesExactly
 writes-exactly t x =

@@ -39,7 +39,7 @@ module _ (s entry : List ℕ) where
       let w = put-front (puts-put (omega arith) p) in
       record {
         answer = ap Sheet (w .0) ∙ rw (e, le-ltb (length entry) (length s) h) refl;
-        buffer = w .1 ∙ ap (λ (k : ℕ). s ++ drop k entry) (sym (w .0));
+        buffer = w .1;
       }
 
   pub wrote-long : maxBytes < length s → Wrote s entry (Refused 1 0) entry

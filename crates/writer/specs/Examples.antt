@@ -8,7 +8,7 @@ use mathlib.Core.List.{List, [], _∷_, _++_}
 use Prim.Native.Nat.{ℕ}
 use Rattle.basis.specs.Test.{each}
 use Rattle.encode.specs.Encode.{encode}
-use Rattle.encode.specs.Lend.{Slices, tableIn}
+use Rattle.encode.specs.Lend.{Slices, five, tableIn}
 use Rattle.writer.specs.declared.Written.{Written}
 use Rattle.writer.specs.declared.Written.the-variants.{Refused, Sheet}
 use Rattle.writer.specs.Written.{told}
@@ -21,9 +21,6 @@ pub record Example : Type 0 where
 
 abbrev pub of : Slices → ℕ → List ℕ → Written → Example
 of l room sheet says = record { slices = l; room = room; sheet = sheet; says = says }
-
-abbrev pub lend : List ℕ → List ℕ → List ℕ → List ℕ → List ℕ → Slices
-lend head events bytes rows pairs = record { head = head; events = events; bytes = bytes; rows = rows; pairs = pairs }
 
 -- descriptions: agent, kind, mode, start, width, tear, the number of data bytes
 abbrev pub init : ℕ → List ℕ
@@ -49,37 +46,37 @@ reads = 2 ∷ 0 ∷ 6 ∷ 1 ∷ 1 ∷ 1 ∷ 0 ∷ 1 ∷ 0 ∷ []
 unfoldable pub examples : List Example
 examples =
     -- 01's whole example, 30 bytes, which just fit
-    of (lend (1 ∷ 1 ∷ 1 ∷ []) (init 0 ++ read 1 1) (0 ∷ 0 ∷ []) (1 ∷ 0 ∷ 0 ∷ []) []) 30
+    of (five (1 ∷ 1 ∷ 1 ∷ []) (init 0 ++ read 1 1) (0 ∷ 0 ∷ []) (1 ∷ 0 ∷ 0 ∷ []) []) 30
     (0x01 ∷ 0x00 ∷ 0x03 ∷ 0x01 ∷ 0x01 ∷ 0x01 ∷ 0x02 ∷ 0x00 ∷ 0x06 ∷ 0x00 ∷ 0x02 ∷ 0x00 ∷ 0x00 ∷ 0x01 ∷ 0x00
     ∷ 0x02 ∷ 0x00 ∷ 0x06 ∷ 0x01 ∷ 0x01 ∷ 0x01 ∷ 0x00 ∷ 0x01 ∷ 0x00 ∷ 0x03 ∷ 0x00 ∷ 0x03 ∷ 0x01 ∷ 0x00 ∷ 0x00 ∷ [])
     (Sheet 30)
     -- the same: a fourth byte of the head, rests of entries and bytes behind the last event's are not looked at
-    ∷ of (lend (1 ∷ 1 ∷ 1 ∷ 9 ∷ []) (init 0 ++ read 1 1 ++ (1 ∷ 1 ∷ 1 ∷ [])) (0 ∷ 0 ∷ 7 ∷ []) (1 ∷ 0 ∷ 0 ∷ 1 ∷ []) (4 ∷ [])) 31
+    ∷ of (five (1 ∷ 1 ∷ 1 ∷ 9 ∷ []) (init 0 ++ read 1 1 ++ (1 ∷ 1 ∷ 1 ∷ [])) (0 ∷ 0 ∷ 7 ∷ []) (1 ∷ 0 ∷ 0 ∷ 1 ∷ []) (4 ∷ [])) 31
     (start 1 ++ reads ++ (3 ∷ 0 ∷ 3 ∷ 1 ∷ 0 ∷ 0 ∷ [])) (Sheet 30)
     -- 52 bytes in a buffer of 51: 15
-    ∷ of (lend (1 ∷ 2 ∷ 1 ∷ []) (init 0 ++ modify ++ marker 1 ++ marker 2) (0 ∷ 0 ∷ 5 ∷ []) (1 ∷ 0 ∷ 0 ∷ []) (2 ∷ 3 ∷ [])) 51
+    ∷ of (five (1 ∷ 2 ∷ 1 ∷ []) (init 0 ++ modify ++ marker 1 ++ marker 2) (0 ∷ 0 ∷ 5 ∷ []) (1 ∷ 0 ∷ 0 ∷ []) (2 ∷ 3 ∷ [])) 51
     (start 2 ++ (2 ∷ 0 ∷ 7 ∷ 1 ∷ 3 ∷ 2 ∷ 0 ∷ 1 ∷ 0 ∷ 5 ∷ 2 ∷ 0 ∷ 5 ∷ 1 ∷ 4 ∷ 2 ∷ 0 ∷ 0 ∷ 2 ∷ 0 ∷ 5 ∷ 2 ∷ 4 ∷ 2 ∷ 0 ∷ 0 ∷ 3 ∷ 0 ∷ 3 ∷ 1 ∷ 0 ∷ 0 ∷ 4 ∷ 0 ∷ 2 ∷ 2 ∷ 3 ∷ []))
     (Refused 15 0)
     -- no head lent: 5; a size that is lacking is 0: 5; nothing reads: 10
-    ∷ of (lend [] [] [] [] []) 99 (1 ∷ 0 ∷ 3 ∷ 0 ∷ 0 ∷ 0 ∷ []) (Refused 5 0)
-    ∷ of (lend (1 ∷ 1 ∷ []) [] [] [] []) 99 (1 ∷ 0 ∷ 3 ∷ 1 ∷ 1 ∷ 0 ∷ []) (Refused 5 0)
-    ∷ of (lend (1 ∷ 2 ∷ 1 ∷ []) (init 0) (0 ∷ []) [] []) 99 (start 2) (Refused 10 0)
+    ∷ of (five [] [] [] [] []) 99 (1 ∷ 0 ∷ 3 ∷ 0 ∷ 0 ∷ 0 ∷ []) (Refused 5 0)
+    ∷ of (five (1 ∷ 1 ∷ []) [] [] [] []) 99 (1 ∷ 0 ∷ 3 ∷ 1 ∷ 1 ∷ 0 ∷ []) (Refused 5 0)
+    ∷ of (five (1 ∷ 2 ∷ 1 ∷ []) (init 0) (0 ∷ []) [] []) 99 (start 2) (Refused 10 0)
     -- the second agent has no event: 14, before the row that is lacking; a read byte without a row: 11, before the buffer
-    ∷ of (lend (1 ∷ 2 ∷ 1 ∷ []) (init 0 ++ read 1 1) (0 ∷ 0 ∷ []) [] []) 99 (start 2 ++ reads) (Refused 14 0)
-    ∷ of (lend (1 ∷ 1 ∷ 1 ∷ []) (init 0 ++ read 1 1) (0 ∷ 0 ∷ []) [] []) 0 (start 1 ++ reads) (Refused 11 1)
+    ∷ of (five (1 ∷ 2 ∷ 1 ∷ []) (init 0 ++ read 1 1) (0 ∷ 0 ∷ []) [] []) 99 (start 2 ++ reads) (Refused 14 0)
+    ∷ of (five (1 ∷ 1 ∷ 1 ∷ []) (init 0 ++ read 1 1) (0 ∷ 0 ∷ []) [] []) 0 (start 1 ++ reads) (Refused 11 1)
     -- a tear byte that the rule does not give: 6, before the wrong length; data of the wrong length: 4; data that is not all there: 4
-    ∷ of (lend (1 ∷ 1 ∷ 1 ∷ []) (init 0 ++ read 0 0) (0 ∷ []) [] []) 99 (start 1 ++ (2 ∷ 0 ∷ 5 ∷ 1 ∷ 0 ∷ 1 ∷ 0 ∷ 1 ∷ [])) (Refused 6 1)
-    ∷ of (lend (1 ∷ 1 ∷ 1 ∷ []) (init 0 ++ read 1 0) (0 ∷ []) [] []) 99 (start 1 ++ (2 ∷ 0 ∷ 5 ∷ 1 ∷ 1 ∷ 1 ∷ 0 ∷ 1 ∷ [])) (Refused 4 1)
-    ∷ of (lend (1 ∷ 1 ∷ 1 ∷ []) (init 0 ++ read 1 1) (0 ∷ []) [] []) 99 (start 1 ++ (2 ∷ 0 ∷ 5 ∷ 1 ∷ 1 ∷ 1 ∷ 0 ∷ 1 ∷ [])) (Refused 4 1)
+    ∷ of (five (1 ∷ 1 ∷ 1 ∷ []) (init 0 ++ read 0 0) (0 ∷ []) [] []) 99 (start 1 ++ (2 ∷ 0 ∷ 5 ∷ 1 ∷ 0 ∷ 1 ∷ 0 ∷ 1 ∷ [])) (Refused 6 1)
+    ∷ of (five (1 ∷ 1 ∷ 1 ∷ []) (init 0 ++ read 1 0) (0 ∷ []) [] []) 99 (start 1 ++ (2 ∷ 0 ∷ 5 ∷ 1 ∷ 1 ∷ 1 ∷ 0 ∷ 1 ∷ [])) (Refused 4 1)
+    ∷ of (five (1 ∷ 1 ∷ 1 ∷ []) (init 0 ++ read 1 1) (0 ∷ []) [] []) 99 (start 1 ++ (2 ∷ 0 ∷ 5 ∷ 1 ∷ 1 ∷ 1 ∷ 0 ∷ 1 ∷ [])) (Refused 4 1)
     -- the same row twice: 7, the second row; a pair of one agent: 8; a bad row and a bad event: the event comes first
-    ∷ of (lend (1 ∷ 1 ∷ 1 ∷ []) (init 0 ++ read 1 1) (0 ∷ 0 ∷ []) (1 ∷ 0 ∷ 0 ∷ 1 ∷ 0 ∷ 0 ∷ []) []) 99
+    ∷ of (five (1 ∷ 1 ∷ 1 ∷ []) (init 0 ++ read 1 1) (0 ∷ 0 ∷ []) (1 ∷ 0 ∷ 0 ∷ 1 ∷ 0 ∷ 0 ∷ []) []) 99
     (start 1 ++ reads ++ (3 ∷ 0 ∷ 3 ∷ 1 ∷ 0 ∷ 0 ∷ 3 ∷ 0 ∷ 3 ∷ 1 ∷ 0 ∷ 0 ∷ [])) (Refused 7 1)
-    ∷ of (lend (1 ∷ 1 ∷ 1 ∷ []) (init 0 ++ marker 1 ++ marker 1) (0 ∷ []) [] (1 ∷ 2 ∷ [])) 99
+    ∷ of (five (1 ∷ 1 ∷ 1 ∷ []) (init 0 ++ marker 1 ++ marker 1) (0 ∷ []) [] (1 ∷ 2 ∷ [])) 99
     (start 1 ++ (2 ∷ 0 ∷ 5 ∷ 1 ∷ 4 ∷ 2 ∷ 0 ∷ 0 ∷ 2 ∷ 0 ∷ 5 ∷ 1 ∷ 4 ∷ 2 ∷ 0 ∷ 0 ∷ 4 ∷ 0 ∷ 2 ∷ 1 ∷ 2 ∷ [])) (Refused 8 0)
-    ∷ of (lend (1 ∷ 1 ∷ 1 ∷ []) (init 0 ++ marker 2) (0 ∷ []) (9 ∷ 9 ∷ 9 ∷ []) []) 99
+    ∷ of (five (1 ∷ 1 ∷ 1 ∷ []) (init 0 ++ marker 2) (0 ∷ []) (9 ∷ 9 ∷ 9 ∷ []) []) 99
     (start 1 ++ (2 ∷ 0 ∷ 5 ∷ 2 ∷ 4 ∷ 2 ∷ 0 ∷ 0 ∷ 3 ∷ 0 ∷ 3 ∷ 9 ∷ 9 ∷ 9 ∷ [])) (Refused 6 1)
     -- a fifth init: 9
-    ∷ of (lend (1 ∷ 2 ∷ 5 ∷ []) (init 0 ++ init 1 ++ init 2 ++ init 3 ++ init 4) (0 ∷ 0 ∷ 0 ∷ 0 ∷ 0 ∷ []) [] []) 99
+    ∷ of (five (1 ∷ 2 ∷ 5 ∷ []) (init 0 ++ init 1 ++ init 2 ++ init 3 ++ init 4) (0 ∷ 0 ∷ 0 ∷ 0 ∷ 0 ∷ []) [] []) 99
     (1 ∷ 0 ∷ 3 ∷ 1 ∷ 2 ∷ 5 ∷ 2 ∷ 0 ∷ 6 ∷ 0 ∷ 2 ∷ 0 ∷ 0 ∷ 1 ∷ 0 ∷ 2 ∷ 0 ∷ 6 ∷ 0 ∷ 2 ∷ 0 ∷ 1 ∷ 1 ∷ 0 ∷ 2 ∷ 0 ∷ 6 ∷ 0 ∷ 2 ∷ 0 ∷ 2 ∷ 1 ∷ 0 ∷ 2 ∷ 0 ∷ 6 ∷ 0 ∷ 2 ∷ 0 ∷ 3 ∷ 1 ∷ 0
     ∷ 2 ∷ 0 ∷ 6 ∷ 0 ∷ 2 ∷ 0 ∷ 4 ∷ 1 ∷ 0 ∷ []) (Refused 9 4)
     ∷ []

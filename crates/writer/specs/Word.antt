@@ -1,5 +1,5 @@
 -- The 64-bit answer of the writer (EXPORTS: kind 1 refused with the place, here an index; kind 5 written with "the length of the sheet").
--- Laws: proofs/WordLaws.antt.
+-- Law: proofs/Demands.antt (`fits-word`).
 --     writtenWord w     the word of an answer
 --     writtenIn w       the answer read back from its word, as the header's macros do it
 -- Assumes nothing.

@@ -5,11 +5,12 @@
 -- Assumes nothing.
 use mathlib.Core.Path.{_≡_}
 use mathlib.Core.Bool.{cond}
-use mathlib.Core.List.{List, _++_}
+use mathlib.Core.List.{List}
 use Prim.Native.Nat.{ℕ}
 use lib.Dec.{ltb}
-use lib.ListN.{length, drop}
+use lib.ListN.{length}
 use Rattle.parse.specs.Parse.{Parsed, refused, whole, parse}
+use Rattle.puts.specs.Put.{overlaid}
 use Rattle.encode.specs.Index.{indexOf}
 use Rattle.writer.specs.declared.Written.{Written}
 use Rattle.writer.specs.declared.Written.the-variants.{Refused, Sheet}
@@ -26,7 +27,7 @@ told s room = toldBy s room (parse s)
 -- "A refused call leaves the buffer unchanged; bytes after the sheet are unchanged."
 abbrev pub left : Written → List ℕ → List ℕ → List ℕ
 left (Refused n i) s entry = entry
-left (Sheet n) s entry = s ++ drop n entry
+left (Sheet n) s entry = overlaid s entry
 
 pub record Wrote (s entry : List ℕ) (r : Written) (exit : List ℕ) : Type 0 where
   pub answer : r ≡ told s (length entry)

@@ -1,6 +1,6 @@
 -- `lend::lend` meets its contract: the reader's refusal, or what is lent of a whole sheet. Assumes nothing.
 use denote.Ref.{now}
-use Rattle.lend.specs.Lending.{five}
+use Rattle.encode.specs.Lend.{five}
 use Rattle.lend.proofs.LendingLaws.{lending-refused}
 use borrow.Author.Needs.{needs}
 use Rattle.lend.proofs.lend.Statement.{statement}

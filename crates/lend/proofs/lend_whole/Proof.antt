@@ -1,7 +1,7 @@
 -- `lend::lend_whole` meets its contract: a buffer is too short, or each slice is put where there is room. Assumes nothing.
 use native.Mathlib.Omega.{arith}
 use denote.Ref.{now}
-use Rattle.lend.specs.Lending.{five}
+use Rattle.encode.specs.Lend.{five}
 use Rattle.lend.proofs.LendingLaws.{lending-short, lending-filled}
 use borrow.Author.Needs.{needs}
 use Rattle.lend.proofs.lend_whole.Statement.{statement}

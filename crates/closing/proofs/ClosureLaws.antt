@@ -1,41 +1,24 @@
 -- The laws of specs/Closure.antt: the closure of rows of successors, pivot by pivot. Assumes nothing.
 --     reach-trans                        a way after a way
---     stage-none stage-next stage-all    what holds once the pivots below k are done; after the last it is the closure
+--     stage-none stage-next stage-all    what holds once every pivot is done but those that are left, two and two; with none left it is the closure
 --     closed-square                      rows of n events stay rows of n events
 --     closed-unique        there is one closure
 use mathlib.Core.Path.{_≡_, refl, sym, ap, ap₂, _∙_, subst}
-use mathlib.Core.Bool.{Bool, true, false, _&&_, _||_, or-false}
+use mathlib.Core.Bool.{Bool, true, false, _&&_, _||_}
 use mathlib.Core.Logic.{_⊎_, inl, inr, ⊎-elim}
 use mathlib.Core.List.{List}
-use Prim.Native.Nat.{ℕ, _+_, _-_, _<_}
+use Prim.Native.Nat.{ℕ, _+_, _-_, _%_, _≤_, _<_}
 use native.Mathlib.Decide.{ℕ-discrete, decLt}
 use native.Mathlib.Omega.{arith}
-use native.Mathlib.Nat.{not-suc-le-zero}
 use lib.ListN.{length, getD, drop}
 use lib.Seq.{getD-drop, ext-getD}
-use lib.Bits.{bitOr}
-use Rattle.basis.proofs.BoolLaws.{bool-ext, by-bool, bar-cases, bar-left, bar-right, and-parts}
-use Rattle.sets.specs.Mask.{mem, Has, pick}
+use Rattle.basis.proofs.BoolLaws.{bool-ext, not-both-ways, false-of, bar-cases, bar-left, bar-right, and-parts}
+use Rattle.sets.specs.Mask.{slots, mem, Has, remove, Lowest}
 use Rattle.closing.specs.Closure.{Reach, Square, Closed}
 use Rattle.closing.specs.Closure.Reach.{step, more}
-use Rattle.closing.specs.Sweep.{absorb, Swept}
-use Rattle.sets.proofs.MaskLaws.{ext-all, mem-or, mem-lt, lt-of-members}
-
--- ---- one row after a pivot
-
-pub absorb-in : (x k row : ℕ) → mem x k ≡ true → absorb x k row ≡ bitOr x row
-unfolding absorb
-absorb-in x k row h = ap (λ (b : Bool). pick b (bitOr x row) x) h
-
-pub absorb-out : (x k row : ℕ) → mem x k ≡ false → absorb x k row ≡ x
-unfolding absorb
-absorb-out x k row h = ap (λ (b : Bool). pick b (bitOr x row) x) h
-
-pub mem-absorb : (x k row d : ℕ) → mem (absorb x k row) d ≡ (mem x d || (mem x k && mem row d))
-mem-absorb x k row d =
-    by-bool (mem x k)
-    (λ h. ap (λ (s : ℕ). mem s d) (absorb-in x k row h) ∙ mem-or x row d ∙ sym (ap (λ (b : Bool). mem x d || (b && mem row d)) h))
-    (λ h. ap (λ (s : ℕ). mem s d) (absorb-out x k row h) ∙ sym (or-false (mem x d)) ∙ sym (ap (λ (b : Bool). mem x d || (b && mem row d)) h))
+use Rattle.closing.specs.Sweep.{succOf, pivot, Swept, Pivots, Second}
+use Rattle.sets.proofs.MaskLaws.{ext-all, mem-empty, mem-lt, lt-of-members, at-slot, remove-old, remove-cases, remove-le, remove-lt}
+use Rattle.closing.proofs.SweepLaws.{mem-absorb}
 
 -- ---- reachability
 
@@ -43,81 +26,131 @@ pub reach-trans : {n : ℕ} {rows : List ℕ} {e m d : ℕ} → Reach n rows e m
 reach-trans (step h) l q = more h l q
 reach-trans (more h k p) l q = more h k (reach-trans p l q)
 
--- ---- what holds once the pivots below k are done: the rows grew, say nothing false, and lead through every such pivot
+-- ---- what holds of the rows f once every pivot but those of `left` is done: the rows grew, say nothing false, and lead through every such pivot
 
-abbrev pub Leads : List ℕ → ℕ → ℕ → Type 0
-Leads r e d = Has (getD r e 0) d
+pub record Grown (n left : ℕ) (r₀ : List ℕ) (f : ℕ → ℕ) : Type 0 where
+  pub keeps : (e d : ℕ) → e < n → Has (succOf r₀ e) d → Has (f e) d
+  pub sound : (e d : ℕ) → e < n → Has (f e) d → Reach n r₀ e d
+  pub via : (p : ℕ) → p < n → mem left p ≡ false → (e d : ℕ) → e < n → Has (f e) p → Has (f p) d → Has (f e) d
 
-pub record Stage (n k : ℕ) (r₀ r : List ℕ) : Type 0 where
-  pub size : length r ≡ length r₀
-  pub keeps : (e d : ℕ) → e < n → Leads r₀ e d → Leads r e d
-  pub sound : (e d : ℕ) → e < n → Leads r e d → Reach n r₀ e d
-  pub via : (p : ℕ) → p < k → (e d : ℕ) → e < n → Leads r e p → Leads r p d → Leads r e d
-  pub rest : drop n r ≡ drop n r₀
-
-pub stage-none : (n : ℕ) (r₀ : List ℕ) → Stage n 0 r₀ r₀
-stage-none n r₀ = record {
-  size = refl;
+-- through a number that is no pivot there is no way
+grown-none : (n : ℕ) (r₀ : List ℕ) (left : ℕ) → Pivots n r₀ left → Grown n left r₀ (succOf r₀)
+grown-none n r₀ left q = record {
   keeps = λ e d l h. h;
   sound = λ e d l h. step h;
-  via = λ p l e d k a b. absurd (not-suc-le-zero l);
-  rest = refl;
+  via = λ p l o e d k a b. absurd (not-both-ways b (ap (λ (s : ℕ). mem s d) (q .idle p l o e k a) ∙ mem-empty d));
 }
 
-module _ (n k : ℕ) (r₀ r r′ : List ℕ) (kn : k < n) (S : Stage n k r₀ r) (W : Swept n k r r′) where
-  -- a row after the pivot
-  row-is : (e d : ℕ) → e < n → mem (getD r′ e 0) d ≡ (mem (getD r e 0) d || (mem (getD r e 0) k && mem (getD r k 0) d))
-  row-is e d l = ap (λ (s : ℕ). mem s d) (W .each e l) ∙ mem-absorb (getD r e 0) k (getD r k 0) d
+-- one pivot
+module _ {n left : ℕ} {r₀ : List ℕ} {f : ℕ → ℕ} (k : ℕ) (kn : k < n) (G : Grown n left r₀ f) where
+  -- the rows after it
+  abbrev g : ℕ → ℕ
+  g = pivot k f
 
-  old : (e d : ℕ) → e < n → Leads r e d → Leads r′ e d
-  old e d l h = row-is e d l ∙ bar-left (mem (getD r e 0) d) (mem (getD r e 0) k && mem (getD r k 0) d) h
+  old : (e d : ℕ) → Has (f e) d → Has (g e) d
+  old e d h = mem-absorb (f e) k (f k) d ∙ bar-left (mem (f e) d) (mem (f e) k && mem (f k) d) h
 
-  new : (e d : ℕ) → e < n → Leads r e k → Leads r k d → Leads r′ e d
-  new e d l a b = row-is e d l ∙ bar-right (mem (getD r e 0) d) (mem (getD r e 0) k && mem (getD r k 0) d) (ap₂ (λ (x y : Bool). x && y) a b)
+  new : (e d : ℕ) → Has (f e) k → Has (f k) d → Has (g e) d
+  new e d a b = mem-absorb (f e) k (f k) d ∙ bar-right (mem (f e) d) (mem (f e) k && mem (f k) d) (ap₂ (λ (x y : Bool). x && y) a b)
 
-  cases : (e d : ℕ) → e < n → Leads r′ e d → Leads r e d ⊎ (Leads r e k × Leads r k d)
-  cases e d l h =
-      ⊎-elim (λ a. inl a) (λ b. inr (and-parts (mem (getD r e 0) k) (mem (getD r k 0) d) b))
-      (bar-cases (mem (getD r e 0) d) (mem (getD r e 0) k && mem (getD r k 0) d) (sym (row-is e d l) ∙ h))
+  cases : (e d : ℕ) → Has (g e) d → Has (f e) d ⊎ (Has (f e) k × Has (f k) d)
+  cases e d h =
+      ⊎-elim (λ a. inl a) (λ b. inr (and-parts (mem (f e) k) (mem (f k) d) b))
+      (bar-cases (mem (f e) d) (mem (f e) k && mem (f k) d) (sym (mem-absorb (f e) k (f k) d) ∙ h))
 
   -- through an earlier pivot p, and through k
-  through-old : (p : ℕ) → p < k → (e d : ℕ) → e < n → Leads r′ e p → Leads r′ p d → Leads r′ e d
-  through-old p l e d en a b = go (cases e p en a) (cases p d (omega arith) b)
+  through-old : (p : ℕ) → p < n → mem left p ≡ false → (e d : ℕ) → e < n → Has (g e) p → Has (g p) d → Has (g e) d
+  through-old p l o e d en a b = go (cases e p a) (cases p d b)
     where
-      go : Leads r e p ⊎ (Leads r e k × Leads r k p) → Leads r p d ⊎ (Leads r p k × Leads r k d) → Leads r′ e d
-      go (inl x) (inl y) = old e d en (S .via p l e d en x y)
-      go (inl x) (inr y) = new e d en (S .via p l e k en x (y .0)) (y .1)
-      go (inr x) (inl y) = new e d en (x .0) (S .via p l k d kn (x .1) y)
-      go (inr x) (inr y) = new e d en (x .0) (y .1)
+      go : Has (f e) p ⊎ (Has (f e) k × Has (f k) p) → Has (f p) d ⊎ (Has (f p) k × Has (f k) d) → Has (g e) d
+      go (inl x) (inl y) = old e d (G .via p l o e d en x y)
+      go (inl x) (inr y) = new e d (G .via p l o e k en x (y .0)) (y .1)
+      go (inr x) (inl y) = new e d (x .0) (G .via p l o k d kn (x .1) y)
+      go (inr x) (inr y) = new e d (x .0) (y .1)
 
-  through-new : (e d : ℕ) → e < n → Leads r′ e k → Leads r′ k d → Leads r′ e d
-  through-new e d en a b = new e d en (⊎-elim (λ x. x) (λ x. x .0) (cases e k en a)) (⊎-elim (λ y. y) (λ y. y .1) (cases k d kn b))
+  through-new : (e d : ℕ) → Has (g e) k → Has (g k) d → Has (g e) d
+  through-new e d a b = new e d (⊎-elim (λ x. x) (λ x. x .0) (cases e k a)) (⊎-elim (λ y. y) (λ y. y .1) (cases k d b))
 
-  through : (p : ℕ) → p < k + 1 → (e d : ℕ) → e < n → Leads r′ e p → Leads r′ p d → Leads r′ e d
-  through p l e d en a b = go (ℕ-discrete p k)
+  through : (p : ℕ) → p < n → mem (remove left k) p ≡ false → (e d : ℕ) → e < n → Has (g e) p → Has (g p) d → Has (g e) d
+  through p l o e d en a b = go (ℕ-discrete p k)
     where
-      go : Dec (p ≡ k) → Leads r′ e d
-      go (yes q) = through-new e d en (subst (λ (x : ℕ). Leads r′ e x) q a) (subst (λ (x : ℕ). Leads r′ x d) q b)
-      go (no f) = through-old p (omega arith) e d en a b
+      go : Dec (p ≡ k) → Has (g e) d
+      go (yes q) = through-new e d (subst (λ (x : ℕ). Has (g e) x) q a) (subst (λ (x : ℕ). Has (g x) d) q b)
+      go (no f) =
+          through-old p l
+          (false-of (mem left p) (λ t. ⊎-elim (λ q. f q) (λ r. not-both-ways r o) (remove-cases left k p t))) e d en a b
 
-  pub stage-next : Stage n (k + 1) r₀ r′
-  stage-next = record {
-    size = W .size ∙ S .size;
-    keeps = λ e d l h. old e d l (S .keeps e d l h);
-    sound = λ e d l h. ⊎-elim (λ a. S .sound e d l a) (λ b. reach-trans (S .sound e k l (b .0)) kn (S .sound k d kn (b .1))) (cases e d l h);
+  grown-pivot : Grown n (remove left k) r₀ g
+  grown-pivot = record {
+    keeps = λ e d l h. old e d (G .keeps e d l h);
+    sound = λ e d l h. ⊎-elim (λ a. G .sound e d l a) (λ b. reach-trans (G .sound e k l (b .0)) kn (G .sound k d kn (b .1))) (cases e d h);
     via = through;
+  }
+
+-- rows that are the same below n
+grown-same : {n left : ℕ} {r₀ : List ℕ} {f h : ℕ → ℕ} → ((e : ℕ) → e < n → h e ≡ f e) → Grown n left r₀ f → Grown n left r₀ h
+grown-same q G = record {
+  keeps = λ e d l t. ap (λ (s : ℕ). mem s d) (q e l) ∙ G .keeps e d l t;
+  sound = λ e d l t. G .sound e d l (sym (ap (λ (s : ℕ). mem s d) (q e l)) ∙ t);
+  via = λ p l o e d k a b. ap (λ (s : ℕ). mem s d) (q e k) ∙ G .via p l o e d k (sym (ap (λ (s : ℕ). mem s p) (q e k)) ∙ a) (sym (ap (λ (s : ℕ). mem s d) (q p l)) ∙ b);
+}
+
+-- ---- the same of the rows in their table
+
+pub record Stage (n left : ℕ) (r₀ r : List ℕ) : Type 0 where
+  pub size : length r ≡ length r₀
+  pub below : (p : ℕ) → Has left p → p < n
+  pub grown : Grown n left r₀ (succOf r)
+  pub rest : drop n r ≡ drop n r₀
+
+pub stage-none : (n : ℕ) (r₀ : List ℕ) (left : ℕ) → Pivots n r₀ left → Stage n left r₀ r₀
+stage-none n r₀ left q = record { size = refl; below = q .below; grown = grown-none n r₀ left q; rest = refl }
+
+-- the two pivots of a turn, taken from those that are left
+pub record Chosen (n left others k j : ℕ) : Type 0 where
+  pub member : Has left k
+  pub first : k < n
+  pub other : j < n
+  pub rest : others ≡ remove left k
+
+pub chosen : {n left others k j : ℕ} {r₀ r : List ℕ} → n ≤ slots → Stage n left r₀ r → (left ≡ 0 → ⊥) → Lowest left k → others ≡ remove left (k % slots) → Second others k j → Chosen n left others k j
+chosen {n} {left} {others} {k} {j} ns S some low is sec =
+    let h : Has left k = low .member (omega (arith, some)) in
+    let kn : k < n = S .below k h in
+    let same : others ≡ remove left k = is ∙ at-slot (remove left) k (omega arith) in
+    record { member = h; first = kn; other = go same kn (ℕ-discrete others 0); rest = same }
+  where
+    go : others ≡ remove left k → k < n → Dec (others ≡ 0) → j < n
+    go same kn (yes z) = subst (λ (x : ℕ). x < n) (sym (sec .none z)) kn
+    go same kn (no f) = S .below j (remove-old left k j (sym (ap (λ (s : ℕ). mem s j) same) ∙ sec .member (omega (arith, f))))
+
+module _ {n left others k j left′ : ℕ} (ns : n ≤ slots) (C : Chosen n left others k j) (is : left′ ≡ remove others (j % slots)) where
+  now-left : left′ ≡ remove (remove left k) j
+  now-left = let jn = C .other in is ∙ at-slot (remove others) j (omega arith) ∙ ap (λ (s : ℕ). remove s j) (C .rest)
+
+  pub stage-less : left′ < left
+  stage-less =
+      let a = remove-le (remove left k) j in
+      let b = remove-lt left k (C .member) in
+      omega (arith, now-left, a, b)
+
+  pub stage-next : {r₀ r r′ : List ℕ} → Stage n left r₀ r → Swept n k j r r′ → Stage n left′ r₀ r′
+  stage-next {r₀} {r} {r′} S W = subst (λ (x : ℕ). Stage n x r₀ r′) (sym now-left) record {
+    size = W .size ∙ S .size;
+    below = λ p h. S .below p (remove-old left k p (remove-old (remove left k) j p h));
+    grown = grown-same (W .each) (grown-pivot j (C .other) (grown-pivot k (C .first) (S .grown)));
     rest = W .rest ∙ S .rest;
   }
 
 -- ---- after the last pivot
 
-module _ (n : ℕ) (r₀ r : List ℕ) (S : Stage n n r₀ r) where
-  complete : {e d : ℕ} → Reach n r₀ e d → e < n → Leads r e d
-  complete {e} {d} (step h) l = S .keeps e d l h
-  complete {e} {d} (more {m = m} h k p) l = S .via m k e d l (S .keeps e m l h) (complete p k)
+module _ {n : ℕ} {r₀ r : List ℕ} (S : Stage n 0 r₀ r) where
+  complete : {e d : ℕ} → Reach n r₀ e d → e < n → Has (succOf r e) d
+  complete {e} {d} (step h) l = S .grown .keeps e d l h
+  complete {e} {d} (more {m = m} h k p) l = S .grown .via m k (mem-empty m) e d l (S .grown .keeps e m l h) (complete p k)
 
   pub stage-all : Closed n r₀ r
-  stage-all = record { size = S .size; reach = λ e l d. (λ h. S .sound e d l h, λ p. complete p l); rest = S .rest }
+  stage-all = record { size = S .size; reach = λ e l d. (λ h. S .grown .sound e d l h, λ p. complete p l); rest = S .rest }
 
 -- ---- rows of n events stay rows of n events
 

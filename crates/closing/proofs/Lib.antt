@@ -1,1 +1,3 @@
+pub mod SweepLaws
 pub mod ClosureLaws
+pub mod TriplesLaws

@@ -1,2 +1,3 @@
 pub mod Closure
+pub mod Triples
 pub mod Sweep

@@ -3,7 +3,7 @@ use mathlib.Core.Path.{sym, _∙_}
 use Prim.Native.Nat.{_%_}
 use borrow.Author.Needs.{needs}
 use Rattle.sets.specs.Mask.{slots}
-use Rattle.closing.proofs.ClosureLaws.{absorb-in, absorb-out}
+use Rattle.closing.proofs.SweepLaws.{absorb-in, absorb-out}
 use Rattle.closing.proofs.absorb.Statement.{statement}
 use Rattle.closing.proofs.absorb.Tie as tie
 

@@ -1,38 +1,26 @@
--- `closing::sweep` meets its contract: the first i rows are swept, and the others are as they were. The measure is what is left.
--- Assumes nothing.
-use mathlib.Core.Path.{_≡_, refl, ap, _∙_}
-use Prim.Native.Nat.{ℕ, _-_, _%_, _≤_, _<_, zero-le}
-use native.Mathlib.Nat.{le-refl, not-suc-le-zero, mod-eq-of-lt}
+-- `closing::sweep` meets its contract: the first i rows are rewritten (`Rewritten`), each by what both pivots lead to, which is what pivot j makes of
+-- what pivot k makes of it (`absorb-then`). The measure is what is left. Assumes nothing.
+use Prim.Native.Nat.{_-_, _≤_, zero-le}
+use native.Mathlib.Nat.{le-refl}
 use native.Mathlib.Omega.{arith}
-use borrow.Author.Count.{below-more}
 use borrow.Author.Needs.{needs}
 use denote.Ref.{now}
-use lib.ListN.{length, getD, set, drop, length-set}
-use lib.Seq.{getD-set-same, getD-set-other, drop-set-lt}
-use Rattle.sets.specs.Mask.{slots}
-use Rattle.closing.specs.Sweep.{absorb}
+use Rattle.closing.specs.Sweep.{succOf, pivot}
+use Rattle.closing.proofs.SweepLaws.{swept-row, Rewritten, rewritten-none, rewritten-more}
 use Rattle.closing.proofs.sweep.Statement.{statement}
 use Rattle.closing.proofs.sweep.Tie as tie
 
 abbrev Inv-loop : tie.InvT-loop
-Inv-loop rows₀ n k row i₀ rows i =
-    (i ≤ n)
-    × (length rows ≡ length rows₀)
-    × ((e : ℕ) → e < i → getD rows e 0 ≡ absorb (getD rows₀ e 0) k row)
-    × ((e : ℕ) → i ≤ e → getD rows e 0 ≡ getD rows₀ e 0)
-    × (drop n rows ≡ drop n rows₀)
+Inv-loop rows₀ n k j first other row i₀ rows i = (i ≤ n) × Rewritten (pivot j (pivot k (succOf rows₀))) n i rows₀ rows
 
 abbrev μ-loop : tie.MeasureT-loop
-μ-loop rows₀ n k row i₀ rows i = n - i
+μ-loop rows₀ n k j first other row i₀ rows i = n - i
 
-mul-row : tie.Need-mul-row Inv-loop μ-loop
-mul-row c = search needs
+mul-first : tie.Need-mul-first Inv-loop μ-loop
+mul-first c = search needs
 
-slice-read-row : tie.Need-slice-read-row Inv-loop μ-loop
-slice-read-row c = search needs
-
-loop-holds : tie.Need-loop-holds Inv-loop μ-loop
-loop-holds c = (zero-le, refl, λ e l. absurd (not-suc-le-zero l), λ e l. refl, refl)
+slice-read-first : tie.Need-slice-read-first Inv-loop μ-loop
+slice-read-first c = search needs
 
 mul-absorb : tie.Need-mul-absorb Inv-loop μ-loop
 mul-absorb c = search needs
@@ -42,6 +30,21 @@ slice-read-absorb c = search needs
 
 absorb-requires : tie.Need-absorb-requires Inv-loop μ-loop
 absorb-requires c κs = search needs
+
+absorb-requires-2 : tie.Need-absorb-requires-2 Inv-loop μ-loop
+absorb-requires-2 c κs = search needs
+
+loop-holds : tie.Need-loop-holds Inv-loop μ-loop
+loop-holds c = (zero-le, rewritten-none _ _ _)
+
+mul-absorb-both : tie.Need-mul-absorb-both Inv-loop μ-loop
+mul-absorb-both c = search needs
+
+slice-read-absorb-both : tie.Need-slice-read-absorb-both Inv-loop μ-loop
+slice-read-absorb-both c = search needs
+
+absorb-both-requires : tie.Need-absorb-both-requires Inv-loop μ-loop
+absorb-both-requires c κs = search needs
 
 mul-rows : tie.Need-mul-rows Inv-loop μ-loop
 mul-rows c = search needs
@@ -58,27 +61,18 @@ loop-less c = search needs
 loop-again : tie.Need-loop-again Inv-loop μ-loop
 loop-again c =
     let l = c .before .before .before .loop in
-    let a = c .before .before .before .before .before .before .args in
-    let r₀ = now (a .rows) in
-    let i : ℕ = l .i in
-    let v : ℕ = c .absorb .result in
-    let slot : a .k % slots ≡ a .k = mod-eq-of-lt (omega arith) in
-    let is : v ≡ absorb (getD (l .rows) i 0) (a .k) (getD r₀ (a .k) 0) = c .absorb .ensures ∙ ap (λ (x : ℕ). absorb (getD (l .rows) i 0) x (getD r₀ (a .k) 0)) slot in
-    let il : i < length (l .rows) = omega arith in (
+    let a = c .before .before .before .before .before .before .before .before .before .args in (
       omega arith,
-      length-set (l .rows) i v ∙ l .inv .1,
-      below-more (λ (e : ℕ). getD (set (l .rows) i v) e 0 ≡ absorb (getD r₀ e 0) (a .k) (getD r₀ (a .k) 0)) i
-          (λ e h. getD-set-other (l .rows) i e v 0 (λ q. omega arith) ∙ l .inv .2 e h)
-          (getD-set-same (l .rows) i v 0 il ∙ is ∙ ap (λ (x : ℕ). absorb x (a .k) (getD r₀ (a .k) 0)) (l .inv .3 i (le-refl i))),
-      λ e h. getD-set-other (l .rows) i e v 0 (λ q. omega arith) ∙ l .inv .3 e (omega arith),
-      drop-set-lt (a .n) (l .rows) i v (omega arith) ∙ l .inv .4,
+      rewritten-more (c .absorb-both .result) (omega arith) (omega arith)
+          (swept-row (succOf (now (a .rows))) (a .k) (a .j) (l .i) (omega arith) (omega arith) (l .inv .1 .same (l .i) (le-refl (l .i))) (c .before .before .before .before .before .absorb .ensures) (c .before .before .before .before .absorb2 .ensures) (c .absorb-both .ensures))
+          (l .inv .1),
     )
 
 same-length : tie.Need-same-length Inv-loop μ-loop
-same-length c = c .before .loop .inv .1
+same-length c = c .before .loop .inv .1 .size
 
 returns : tie.Need-returns Inv-loop μ-loop
-returns c = let l = c .before .loop in record { size = l .inv .1; each = λ e h. l .inv .2 e (omega arith); rest = l .inv .4 }
+returns c = let l = c .before .loop in record { size = l .inv .1 .size; each = λ e h. l .inv .1 .done e (omega arith); rest = l .inv .1 .rest }
 
 pub sweep-spec : {M : Type 1} → statement M
 sweep-spec =
@@ -86,12 +80,16 @@ sweep-spec =
     (tie.spec
     Inv-loop
     μ-loop
-    mul-row
-    slice-read-row
-    loop-holds
+    mul-first
+    slice-read-first
     mul-absorb
     slice-read-absorb
     absorb-requires
+    absorb-requires-2
+    loop-holds
+    mul-absorb-both
+    slice-read-absorb-both
+    absorb-both-requires
     mul-rows
     slice-write-rows
     add-i

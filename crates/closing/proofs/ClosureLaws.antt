@@ -16,7 +16,7 @@ use Rattle.basis.proofs.BoolLaws.{bool-ext, not-both-ways, false-of, bar-cases,
 use Rattle.sets.specs.Mask.{slots, mem, Has, remove, Lowest}
 use Rattle.closing.specs.Closure.{Reach, Square, Closed}
 use Rattle.closing.specs.Closure.Reach.{step, more}
-use Rattle.closing.specs.Sweep.{succOf, pivot, Swept, Pivots, Second}
+use Rattle.closing.specs.steps.Sweep.{succOf, pivot, Swept, Pivots, Second}
 use Rattle.sets.proofs.MaskLaws.{ext-all, mem-empty, mem-lt, lt-of-members, at-slot, remove-old, remove-cases, remove-le, remove-lt}
 use Rattle.closing.proofs.SweepLaws.{mem-absorb}
 

@@ -1,4 +1,4 @@
--- The laws of specs/Sweep.antt. Assumes nothing.
+-- The laws of specs/steps/Sweep.antt. Assumes nothing.
 --     absorb-in absorb-out mem-absorb    one row after a pivot
 --     absorb-then swept-row              a row after two pivots, from what each leads to
 --     note-empty note-some               a row noted, or passed over
@@ -20,7 +20,7 @@ use Rattle.basis.proofs.BoolLaws.{by-bool, not-both-ways, false-of, bar-left, b
 use Rattle.basis.proofs.ListLaws.{up-more}
 use Rattle.sets.specs.Mask.{slots, mem, Has, pick, insert}
 use Rattle.sets.proofs.MaskLaws.{ext-all, mem-and, mem-or, mem-empty, at-slot, insert-new, insert-old, insert-cases}
-use Rattle.closing.specs.Sweep.{absorb, pivot, noted, Pivots}
+use Rattle.closing.specs.steps.Sweep.{absorb, pivot, noted, Pivots}
 
 -- ---- one row after a pivot
 

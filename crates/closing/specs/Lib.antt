@@ -1,3 +1,3 @@
 pub mod Closure
 pub mod Triples
-pub mod Sweep
+pub mod steps

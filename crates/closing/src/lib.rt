@@ -7,7 +7,7 @@ ghost use lib.Bits.{bitOr};
 ghost use lib.ListN.{length};
 ghost use Rattle.sets.specs.Mask.{slots};
 ghost use Rattle.closing.specs.Closure.{taken, Closed};
-ghost use Rattle.closing.specs.Sweep.{absorb, noted, Pivots, Second, Swept};
+ghost use Rattle.closing.specs.steps.Sweep.{absorb, noted, Pivots, Second, Swept};
 
 // ---- which pivots there are
 

@@ -5,7 +5,7 @@ use native.Mathlib.Nat.{le-refl}
 use native.Mathlib.Omega.{arith}
 use borrow.Author.Needs.{needs}
 use denote.Ref.{now}
-use Rattle.closing.specs.Sweep.{succOf, pivot}
+use Rattle.closing.specs.steps.Sweep.{succOf, pivot}
 use Rattle.closing.proofs.SweepLaws.{swept-row, Rewritten, rewritten-none, rewritten-more}
 use Rattle.closing.proofs.sweep.Statement.{statement}
 use Rattle.closing.proofs.sweep.Tie as tie

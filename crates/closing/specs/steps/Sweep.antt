@@ -1,11 +1,11 @@
--- The pivots of a closure, and two of them done in one pass: what the private steps of `close` promise. No public contract cites this file.
+-- The pivots of a closure, and two of them done in one pass: what the private steps of `close` promise.
 -- Laws: proofs/SweepLaws.antt. Assumes nothing.
 --     succOf rows e           row e of a table
 --     absorb x k row          the row x after pivot k, whose row is `row`
 --     pivot k f e             row e after pivot k, where the rows were f
 --     Swept n k j rows rows′  each of the first n rows after pivot k and then pivot j, and the others as they were
 --     noted s e x             the set s with e, where e's row x is not empty
---     Pivots n rows r         a number below n that the set r leaves out is in none of the first n rows, or its own row is empty
+--     Pivots n rows r         the set r has numbers below n alone; one that it leaves out is in none of the first n rows, or its own row is empty
 --     Second s k r            r is a member of the set s, or k where s is empty
 use mathlib.Core.Path.{_≡_}
 use mathlib.Core.Bool.{false}

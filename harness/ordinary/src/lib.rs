@@ -267,6 +267,38 @@ fn bit(mask: u32, e: usize) -> bool {
     mask >> e & 1 != 0
 }
 
+/// The row x with the row of k, where it has k.
+fn absorb(x: u32, k: usize, row: u32) -> u32 {
+    x | if bit(x, k) { row } else { 0 }
+}
+
+/// The transitive closure of the first n rows of successors; the rows from n on are empty. A whole row at once, only events
+/// that lead somewhere and are led to, two of them in one pass, four rows at a time: of the forms that we tried the fastest.
+#[inline]
+pub fn close(rows: &mut [u32; SLOTS], n: usize) {
+    let (mut into, mut from) = (0u32, 0u32);
+    for (e, x) in rows[..n].iter().enumerate() {
+        into |= x;
+        from |= u32::from(*x != 0) << e;
+    }
+    let mut left = into & from;
+    while left != 0 {
+        let k = left.trailing_zeros() as usize & 31;
+        left &= left - 1;
+        // where none is left, k twice
+        let j = if left == 0 { k } else { left.trailing_zeros() as usize & 31 };
+        left &= left.wrapping_sub(1);
+        let first = rows[k];
+        let other = absorb(rows[j], k, first);
+        let row = absorb(first, j, other);
+        for four in rows.chunks_exact_mut(4).take(n.div_ceil(4)) {
+            for x in four {
+                *x = absorb(*x, k, row) | absorb(*x, j, other);
+            }
+        }
+    }
+}
+
 /// Tables over events, filled once; every set of events is a mask.
 struct Tables {
     tear_free: u32,
@@ -347,15 +379,7 @@ impl Tables {
                 t.succ[writer & 31] |= 1 << reader;
             }
         }
-        // whole rows at once
-        for k in 0..n {
-            let row = t.succ[k];
-            for s in &mut t.succ[..n] {
-                if bit(*s, k) {
-                    *s |= row;
-                }
-            }
-        }
+        close(&mut t.succ, n);
         for e in 0..n {
             let mut left = t.succ[e];
             while left != 0 {

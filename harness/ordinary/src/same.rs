@@ -4,7 +4,8 @@
 //! Structs, `Option`, slices with their bounds checks; nothing of `unsafe`.
 
 use crate::{
-    bit, refused, INIT, MARKER, MAX_INITS, MAX_OTHERS, MAX_PAIRS, MAX_SHEET, READ, RMW, SC, SLOTS, UNORDERED, WRITE,
+    bit, close, refused, INIT, MARKER, MAX_INITS, MAX_OTHERS, MAX_PAIRS, MAX_SHEET, READ, RMW, SC, SLOTS, UNORDERED,
+    WRITE,
 };
 
 /// The word of document 01.
@@ -344,14 +345,7 @@ impl Before {
             let (first, second) = sheet.pair(i);
             succ[first as usize] |= 1 << second;
         }
-        for k in 0..n {
-            let row = succ[k];
-            for mask in &mut succ[..n] {
-                if bit(*mask, k) {
-                    *mask |= row;
-                }
-            }
-        }
+        close(&mut succ, n);
         let mut pred = [0u32; SLOTS];
         for (d, column) in pred[..n].iter_mut().enumerate() {
             for (e, mask) in succ[..n].iter().enumerate() {

@@ -1,6 +1,6 @@
 #!/usr/bin/env python3
 """Makes the stored problems and answers beside it: `make.py` writes them; `make.py --check` compares them with what is stored.
-bench/orders runs them through the exports of crates/orders_c: `bench/orders/run problems tests/orders/problems tests/orders/answers`.
+bench/ runs them through the exports of crates/orders_c: `bench/run orders problems tests/orders/problems tests/orders/answers`.
 
 Everything is found by enumerating permutations and subsets from the definitions alone, with no search and no masks taken from the crates:
 an order meets a problem when it contains `before` and no bar's W, V, R stand in this order.

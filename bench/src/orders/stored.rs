@@ -2,9 +2,33 @@
 // the expected lines by enumeration.
 
 extern "C" {
-    fn orders_first(inits: usize, events: usize, before: *const [u32; 32], bars: *const [u32; 1024], scratch: *mut u8, scratch_len: usize, order: *mut u8, order_len: usize) -> bool;
-    fn orders_possible(inits: usize, events: usize, before: *const [u32; 32], bars: *const [u32; 1024], scratch: *mut u8, scratch_len: usize) -> bool;
-    fn orders_count_sets(inits: usize, events: usize, before: *const [u32; 32], bars: *const [u32; 1024], scratch: *mut u8, scratch_len: usize, limit: usize) -> usize;
+    fn orders_first(
+        inits: usize,
+        events: usize,
+        before: *const [u32; 32],
+        bars: *const [u32; 1024],
+        scratch: *mut u8,
+        scratch_len: usize,
+        order: *mut u8,
+        order_len: usize,
+    ) -> bool;
+    fn orders_possible(
+        inits: usize,
+        events: usize,
+        before: *const [u32; 32],
+        bars: *const [u32; 1024],
+        scratch: *mut u8,
+        scratch_len: usize,
+    ) -> bool;
+    fn orders_count_sets(
+        inits: usize,
+        events: usize,
+        before: *const [u32; 32],
+        bars: *const [u32; 1024],
+        scratch: *mut u8,
+        scratch_len: usize,
+        limit: usize,
+    ) -> usize;
 }
 
 // What every lent buffer holds at first, and its whole length: the first bytes are lent, and then the whole is looked at.
@@ -26,7 +50,15 @@ fn take(bytes: &[u8]) -> (Problem, &[u8]) {
     let n = |i: usize| bytes[i] as usize;
     let (pairs, rest) = bytes[7..].split_at(2 * n(5));
     let (triples, rest) = rest.split_at(3 * n(6));
-    let mut p = Problem { inits: n(0), events: n(1), room: n(2).min(WHOLE), length: n(3).min(WHOLE), limit: n(4), before: [0; 32], bars: [0; 1024] };
+    let mut p = Problem {
+        inits: n(0),
+        events: n(1),
+        room: n(2).min(WHOLE),
+        length: n(3).min(WHOLE),
+        limit: n(4),
+        before: [0; 32],
+        bars: [0; 1024],
+    };
     for pair in pairs.chunks(2) {
         p.before[pair[1] as usize] |= 1 << pair[0];
     }
@@ -49,7 +81,9 @@ fn line(p: &Problem) -> String {
     let mut words = String::new();
 
     let (mut scratch, mut order) = ([FILL; WHOLE], [FILL; WHOLE]);
-    let found = unsafe { orders_first(p.inits, p.events, &p.before, &p.bars, scratch.as_mut_ptr(), p.room, order.as_mut_ptr(), p.length) };
+    let found = unsafe {
+        orders_first(p.inits, p.events, &p.before, &p.bars, scratch.as_mut_ptr(), p.room, order.as_mut_ptr(), p.length)
+    };
     if found {
         order[..p.length].iter().for_each(|b| words += &format!("{b} "));
     } else {
@@ -63,7 +97,8 @@ fn line(p: &Problem) -> String {
     kept &= clean(&scratch, cleared);
 
     let mut scratch = [FILL; WHOLE];
-    let count = unsafe { orders_count_sets(p.inits, p.events, &p.before, &p.bars, scratch.as_mut_ptr(), p.room, p.limit) };
+    let count =
+        unsafe { orders_count_sets(p.inits, p.events, &p.before, &p.bars, scratch.as_mut_ptr(), p.room, p.limit) };
     words += &if count == usize::MAX { "over ".to_string() } else { format!("sets {count} ") };
     kept &= clean(&scratch, cleared);
 

@@ -58,11 +58,19 @@ impl Problem<'_> {
 }
 
 fn needed(n: usize) -> usize {
-    if n < 3 { 1 } else { 1 << (n - 3) }
+    if n < 3 {
+        1
+    } else {
+        1 << (n - 3)
+    }
 }
 
 fn full(n: usize) -> u32 {
-    if n < 32 { (1 << n) - 1 } else { !0 }
+    if n < 32 {
+        (1 << n) - 1
+    } else {
+        !0
+    }
 }
 
 fn search(p: &Problem, scratch: &mut [u8], path: &mut [u8; 32]) -> bool {
@@ -97,7 +105,14 @@ fn fits(inits: usize, events: usize, room: usize) -> bool {
 }
 
 #[inline(never)]
-pub fn first(inits: usize, events: usize, before: &[u32; 32], bars: &[u32; 1024], scratch: &mut [u8], order: &mut [u8]) -> bool {
+pub fn first(
+    inits: usize,
+    events: usize,
+    before: &[u32; 32],
+    bars: &[u32; 1024],
+    scratch: &mut [u8],
+    order: &mut [u8],
+) -> bool {
     if !fits(inits, events, scratch.len()) || order.len() < events {
         return false;
     }
@@ -117,7 +132,14 @@ pub fn first(inits: usize, events: usize, before: &[u32; 32], bars: &[u32; 1024]
 }
 
 #[inline(never)]
-pub fn count_sets(inits: usize, events: usize, before: &[u32; 32], bars: &[u32; 1024], scratch: &mut [u8], limit: usize) -> Reach {
+pub fn count_sets(
+    inits: usize,
+    events: usize,
+    before: &[u32; 32],
+    bars: &[u32; 1024],
+    scratch: &mut [u8],
+    limit: usize,
+) -> Reach {
     if !fits(inits, events, scratch.len()) {
         return Reach::All(0);
     }

@@ -2,15 +2,43 @@
 // `compare` only compares them; `problems FILE FILE` holds the proved search against stored answers (see stored.rs).
 mod plain;
 mod stored;
-use std::time::Instant;
+use crate::{lowest, Rng};
 
 extern "C" {
-    fn orders_first(inits: usize, events: usize, before: *const [u32; 32], bars: *const [u32; 1024], scratch: *mut u8, scratch_len: usize, order: *mut u8, order_len: usize) -> bool;
-    fn orders_count_sets(inits: usize, events: usize, before: *const [u32; 32], bars: *const [u32; 1024], scratch: *mut u8, scratch_len: usize, limit: usize) -> usize;
+    fn orders_first(
+        inits: usize,
+        events: usize,
+        before: *const [u32; 32],
+        bars: *const [u32; 1024],
+        scratch: *mut u8,
+        scratch_len: usize,
+        order: *mut u8,
+        order_len: usize,
+    ) -> bool;
+    fn orders_count_sets(
+        inits: usize,
+        events: usize,
+        before: *const [u32; 32],
+        bars: *const [u32; 1024],
+        scratch: *mut u8,
+        scratch_len: usize,
+        limit: usize,
+    ) -> usize;
 }
 
 fn first(p: &Task, scratch: &mut [u8], order: &mut [u8]) -> bool {
-    unsafe { orders_first(INITS, p.events, &p.before, &p.bars, scratch.as_mut_ptr(), scratch.len(), order.as_mut_ptr(), order.len()) }
+    unsafe {
+        orders_first(
+            INITS,
+            p.events,
+            &p.before,
+            &p.bars,
+            scratch.as_mut_ptr(),
+            scratch.len(),
+            order.as_mut_ptr(),
+            order.len(),
+        )
+    }
 }
 
 fn count(p: &Task, scratch: &mut [u8]) -> usize {
@@ -23,16 +51,6 @@ struct Task {
     events: usize,
     before: [u32; 32],
     bars: [u32; 1024],
-}
-
-struct Rng(u64);
-impl Rng {
-    fn next(&mut self, n: usize) -> usize {
-        self.0 ^= self.0 << 13;
-        self.0 ^= self.0 >> 7;
-        self.0 ^= self.0 << 17;
-        (self.0 >> 11) as usize % n
-    }
 }
 
 // Events of some agents, each agent's in its order, behind the inits; some bars on top.
@@ -130,62 +148,40 @@ fn compare() {
     println!("orders: the proved search and the ordinary one agree on {seen} problems");
 }
 
-fn main() {
-    if std::env::args().nth(1).as_deref() == Some("compare") {
-        return compare();
+// What the words behind `orders` ask for.
+pub fn run(words: &[String]) {
+    match words {
+        [what] if what == "compare" => compare(),
+        [what, problems, answers] if what == "problems" => {
+            let file = |name| std::fs::read(name).expect("can be read");
+            stored::hold(&file(problems), &file(answers))
+        }
+        _ => times(crate::rounds(words)),
     }
-    if std::env::args().nth(1).as_deref() == Some("problems") {
-        let file = |i| std::fs::read(std::env::args().nth(i).expect("a file")).expect("can be read");
-        return stored::hold(&file(2), &file(3));
-    }
-    let rounds: usize = std::env::args().nth(1).map_or(40, |s| s.parse().unwrap());
+}
+
+fn times(rounds: usize) {
     println!("| Problems | Events | Rattle | Rust | Ratio |");
     println!("|---|---|---|---|---|");
     for family in ["found", "none", "every", "count"] {
         for n in [4, 8, 12, 16, 18] {
             let ts = tasks(family, n);
             ts.iter().for_each(check);
-            let mut scratch = vec![0u8; 1 << 16];
-            let mut order = [0u8; 32];
-            let mut sink = 0usize;
-            // as many calls in a round as take about 3 ms
-            let t0 = Instant::now();
-            for t in &ts {
-                sink += if family == "count" { count(t, &mut scratch) } else { first(t, &mut scratch, &mut order) as usize };
-            }
-            let once = t0.elapsed().as_nanos().max(1) as usize;
-            let reps = (3_000_000 / once).clamp(1, 200_000);
-            let (mut best_a, mut best_b) = (f64::MAX, f64::MAX);
-            let mut ratios = Vec::new();
-            for _ in 0..rounds {
-                let t0 = Instant::now();
-                for _ in 0..reps {
-                    for t in &ts {
-                        sink += if family == "count" { count(t, &mut scratch) } else { first(t, &mut scratch, &mut order) as usize };
-                    }
+            let (mut s1, mut s2) = (vec![0u8; 1 << 16], vec![0u8; 1 << 16]);
+            let (mut o1, mut o2) = ([0u8; 32], [0u8; 32]);
+            let counted = family == "count";
+            let mut proved = |t: &Task| if counted { count(t, &mut s1) } else { first(t, &mut s1, &mut o1) as usize };
+            let mut ordinary = |t: &Task| {
+                if !counted {
+                    return plain::first(INITS, t.events, &t.before, &t.bars, &mut s2, &mut o2) as usize;
                 }
-                let a = t0.elapsed().as_nanos() as f64;
-                let t0 = Instant::now();
-                for _ in 0..reps {
-                    for t in &ts {
-                        sink += if family == "count" {
-                            match plain::count_sets(INITS, t.events, &t.before, &t.bars, &mut scratch, usize::MAX) {
-                                plain::Reach::All(n) => n,
-                                plain::Reach::Over => 1,
-                            }
-                        } else {
-                            plain::first(INITS, t.events, &t.before, &t.bars, &mut scratch, &mut order) as usize
-                        };
-                    }
+                match plain::count_sets(INITS, t.events, &t.before, &t.bars, &mut s2, usize::MAX) {
+                    plain::Reach::All(n) => n,
+                    plain::Reach::Over => 1,
                 }
-                let b = t0.elapsed().as_nanos() as f64;
-                best_a = best_a.min(a);
-                best_b = best_b.min(b);
-                ratios.push(a / b);
-            }
-            std::hint::black_box(sink);
-            let each = (reps * ts.len()) as f64;
-            println!("| {family} | {n} | {:.0} ns | {:.0} ns | {:.2} |", best_a / each, best_b / each, best_a / best_b);
+            };
+            let [a, b] = lowest(rounds, 3e-3, &ts, [&mut proved, &mut ordinary]);
+            println!("| {family} | {n} | {a:.0} ns | {b:.0} ns | {:.2} |", a / b);
         }
     }
 }

@@ -1,8 +1,10 @@
 -- The closure as 02 §3 says that it was worked out: "by trying every triple of events", until none adds anything. "Work a whole row of successors at
 -- once. No promise or answer changes": the rows that `close` leaves (Closure.antt) are those. Proved in proofs/TriplesLaws.antt. Assumes nothing.
---     Includes n P rows       the relation P has all that the first n rows lead to
+--     Leads rows e d          row e of the table has d
+--     Includes n P rows       the relation P has all that the first n rows have
 --     Triples n P             no triple is left: where e leads to m and m to d, e leads to d; e and m below n
---     Tripled n rows rows′    rows′ has what rows has, leaves no triple, and has nothing that any relation could do without; the others are as they were
+--     Tripled n rows rows′    the first n of rows′ have what those of rows have and leave no triple, and are the least that do: every relation of which
+--                             both are true has all that they have; the others are as they were
 --     ByTriples               by rows and by triples: the same
 use mathlib.Core.Path.{_≡_}
 use mathlib.Core.List.{List}

@@ -44,7 +44,7 @@ pub fn rows(rows: &mut Table, n: usize) {
 }
 
 // The best that we found, the ordinary judge's own: only events that lead somewhere and are led to, two of them in one pass,
-// four rows at a time, also behind the last.
+// eight rows at a time, also behind the last.
 #[inline(never)]
 pub fn best(rows: &mut Table, n: usize) {
     ordinary::close(rows, n);

@@ -21,14 +21,13 @@ use lib.Seq.{drop-drop, drop-length}
 use Rattle.basis.specs.Test.{each, from}
 use Rattle.basis.proofs.ListLaws.{part-short, from-more, each-more}
 use Rattle.format.specs.declared.Shape.{Shape}
-use Rattle.format.specs.Layout.{editionOf, rowBytes, pairBytes, headOf, shapeOf, rowOf, pairOf}
-use Rattle.format.specs.Shape.{tearOf}
+use Rattle.format.specs.Layout.{editionOf, eventBytes, tearBy, rowBytes, pairBytes, headOf, shapeOf, rowOf, pairOf}
 use Rattle.puts.specs.Put.{Puts}
 use Rattle.puts.proofs.PutLaws.{puts-none, puts-then}
 use Rattle.encode.specs.Table.{Description}
 use Rattle.encode.specs.Encode.{field, kindByte, eventValue, headValue, rowValue, pairValue, run, encode}
 use Rattle.encode.specs.Lent.{part, entries, descriptionBytes, dataLength, dataFrom, descriptionOf, descriptionNo, lent}
-use Rattle.encode.proofs.EncodeLaws.{run-snoc, row-back, pair-back, sheet-split}
+use Rattle.encode.proofs.EncodeLaws.{run-snoc, laid-long, row-back, pair-back, sheet-split}
 use Rattle.compose.specs.steps.Opening.{opening}
 
 pub puts-field : {e f g : List ℕ} {at m n : ℕ} (tag : ℕ) (v : List ℕ) → Puts (opening tag (length v)) at m e f → Puts v m n f g → Puts (field tag v) at n e g
@@ -64,33 +63,39 @@ puts-part tag gap l k i {e} {g} {at} {m} q a =
 
 -- ---- descriptions
 
-module _ (d : List ℕ) (a : Shape) (b : ℕ) (e : a ≡ shapeOf 1 d) (f : b ≡ getD d 5 0) where
-  pub kind-same : b ≡ a .tear → a .kind ≡ kindByte (descriptionOf d [])
+module _ (edition : ℕ) (d : List ℕ) (a : Shape) (b : ℕ) (e : a ≡ shapeOf edition d) (f : b ≡ getD d 5 0) where
+  abbrev said : ℕ
+  said = tearBy edition (getD d 1 0) (getD d 2 0) (getD d 3 0) (getD d 4 0) (getD d 5 0)
+
+  pub kind-same : b ≡ a .tear → a .kind ≡ kindByte edition (descriptionOf d [])
   unfolding kindByte
   kind-same h =
-      let g : getD d 5 0 ≡ tearOf (getD d 1 0) (getD d 2 0) (getD d 3 0) (getD d 4 0) = sym f ∙ h ∙ ap {B = ℕ} (λ (u : Shape). u .tear) e in
+      let g : getD d 5 0 ≡ said = sym f ∙ h ∙ ap {B = ℕ} (λ (u : Shape). u .tear) e in
       rw (eq-eqb _ _ g) (ap {B = ℕ} (λ (u : Shape). u .kind) e)
 
-  pub kind-other : (b ≡ a .tear → ⊥) → 0 ≡ kindByte (descriptionOf d [])
+  pub kind-other : (b ≡ a .tear → ⊥) → 0 ≡ kindByte edition (descriptionOf d [])
   unfolding kindByte
   kind-other h =
-      let g : getD d 5 0 ≡ tearOf (getD d 1 0) (getD d 2 0) (getD d 3 0) (getD d 4 0) → ⊥ = λ q. h (f ∙ q ∙ sym (ap {B = ℕ} (λ (u : Shape). u .tear) e)) in
+      let g : getD d 5 0 ≡ said → ⊥ = λ q. h (f ∙ q ∙ sym (ap {B = ℕ} (λ (u : Shape). u .tear) e)) in
       rw (ne-eqb _ _ g) refl
 
-abbrev pub fixed : List ℕ → List ℕ
-fixed d = getD d 0 0 ∷ kindByte (descriptionOf d []) ∷ getD d 2 0 ∷ getD d 3 0 ∷ getD d 4 0 ∷ []
+-- what may stand before the data
+abbrev pub fixed : ℕ → List ℕ → List ℕ
+fixed edition d = getD d 0 0 ∷ kindByte edition (descriptionOf d []) ∷ getD d 2 0 ∷ getD d 3 0 ∷ getD d 4 0 ∷ getD d 5 0 ∷ []
 
-pub fixed-here : (d : List ℕ) {a k m s w : ℕ} → a ≡ getD d 0 0 → k ≡ kindByte (descriptionOf d []) → m ≡ getD d 2 0 → s ≡ getD d 3 0 → w ≡ getD d 4 0
-    → _≡_ {A = List ℕ} (a ∷ k ∷ m ∷ s ∷ w ∷ []) (fixed d)
-fixed-here d p q r u o = cc
+pub fixed-here : (edition : ℕ) (d : List ℕ) {a k m s w t : ℕ} → a ≡ getD d 0 0 → k ≡ kindByte edition (descriptionOf d []) → m ≡ getD d 2 0 → s ≡ getD d 3 0 → w ≡ getD d 4 0 → t ≡ getD d 5 0
+    → _≡_ {A = List ℕ} (a ∷ k ∷ m ∷ s ∷ w ∷ t ∷ []) (fixed edition d)
+fixed-here edition d p q r u o i = cc
 
-pub puts-event : (edition : ℕ) (d bytes v : List ℕ) {e f g h : List ℕ} {at m n o : ℕ} → v ≡ fixed d → Puts (opening 2 (length bytes + 5)) at m e f → Puts v m n f g → Puts bytes n o g h
+pub puts-event : (edition : ℕ) (d bytes v : List ℕ) (j : ℕ) {e f g h : List ℕ} {at m n o : ℕ} → v ≡ fixed edition d → j ≡ eventBytes edition
+    → Puts (opening 2 (length bytes + j)) at m e f → Puts (take j v) m n f g → Puts bytes n o g h
     → Puts (field 2 (eventValue edition (descriptionOf d bytes))) at o e h
 unfolding kindByte
-puts-event edition d bytes v {e} {f} {g} {h} {at} {m} {n} {o} q a b c =
-    let l : length bytes + 5 ≡ length (eventValue edition (descriptionOf d bytes)) = omega arith in
+puts-event edition d bytes v j {e} {f} {g} {h} {at} {m} {n} {o} q i a b c =
+    let y = laid-long edition (getD d 0 0) (kindByte edition (descriptionOf d [])) (getD d 2 0) (getD d 3 0) (getD d 4 0) (getD d 5 0) bytes in
+    let l : length bytes + j ≡ length (eventValue edition (descriptionOf d bytes)) = omega arith in
     puts-field 2 (eventValue edition (descriptionOf d bytes)) (subst (λ (k : ℕ). Puts (opening 2 k) at m e f) l a)
-    (puts-then (subst (λ (u : List ℕ). Puts u m n f g) q b) c)
+    (puts-then (subst (λ (u : List ℕ). Puts u m n f g) (ap (take j) q ∙ ap (λ (k : ℕ). take k (fixed edition d)) i) b) c)
 
 -- the data of an event: as many of the bytes wanted as there are
 abbrev pub endOf : ℕ → ℕ → ℕ → ℕ

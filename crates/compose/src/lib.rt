@@ -7,7 +7,7 @@ ghost use mathlib.Core.Bool.{cond};
 ghost use mathlib.Core.List.{List, []};
 ghost use Prim.Native.Nat.{ℕ, _+_, _-_, _*_, _≤_};
 ghost use lib.Dec.{leb};
-ghost use lib.ListN.{length};
+ghost use lib.ListN.{length, take};
 ghost use Rattle.basis.specs.Test.{each, from};
 ghost use Rattle.puts.specs.Put.{Puts};
 ghost use Rattle.encode.specs.Encode.{field, kindByte, eventValue, run, encode};
@@ -50,11 +50,12 @@ fn put_entries(out: &mut [u8], at: usize, tag: u8, gap: usize, n: usize, list: &
 
 // ---- events
 
-// The kind of a description; at edition 1, which has no tear byte, one that is not listed where the tear byte is not what the rule gives.
-fn kind_byte(d: &[u8]) -> u8
-    ensures { λ r. ⌜ r ≡ kindByte (descriptionOf (now (d .entry)) []) ⌝ }
+// The kind of a description; one that is not listed where a sheet of the edition would say another tear byte: at edition 1, which has none, what the rule
+// gives. A description begins as an event's value of edition 2 does.
+fn kind_byte(edition: u8, d: &[u8]) -> u8
+    ensures { λ r. ⌜ r ≡ kindByte edition (descriptionOf (now (d .entry)) []) ⌝ }
 {
-    let a = layout::shape_of(1, d);
+    let a = layout::shape_of(edition, d);
     if field::byte(d, 5) == a.tear {
         a.kind
     } else {
@@ -62,18 +63,28 @@ fn kind_byte(d: &[u8]) -> u8
     }
 }
 
+// The first n bytes of v.
+fn put_front(out: &mut [u8], at: usize, v: &[u8], n: usize) -> usize
+    requires { ⌜ n ≤ length (now v) ⌝ }
+    ensures { λ r. ⌜ Puts (take n (now (v .entry))) at r (now (out .entry)) (now (out .exit)) ⌝ }
+{
+    puts::put_bytes(out, at, &v[..n])
+}
+
 fn put_event(out: &mut [u8], at: usize, edition: u8, d: &[u8], bytes: &[u8]) -> usize
     ensures { λ r. ⌜ Puts (field 2 (eventValue edition (descriptionOf (now (d .entry)) (now (bytes .entry))))) at r (now (out .entry)) (now (out .exit)) ⌝ }
 {
     let v = [
         field::byte(d, 0),
-        kind_byte(d),
+        kind_byte(edition, d),
         field::byte(d, 2),
         field::byte(d, 3),
         field::byte(d, 4),
+        field::byte(d, 5),
     ];
-    let value = put_opening(out, at, 2, bytes.len() + 5);
-    let rest = puts::put_bytes(out, value, &v);
+    let n = sizes::event_bytes(edition) as usize;
+    let value = put_opening(out, at, 2, bytes.len() + n);
+    let rest = put_front(out, value, &v, n);
     puts::put_bytes(out, rest, bytes)
 }
 

@@ -3,14 +3,16 @@
 --     room-init, room-other         room for an init, for another event
 --     SizedFacts, KindFacts, InitFacts, OtherFacts     what a shape that fits is
 --     formed-cases, formed-holds    a shape that is formed is an init's, or another's; and back
+--     TearFacts, tear-facts, tear-holds     a tear byte that fits, both ways       rule-fits     what 01's rule gives fits
 --     HeadFacts, head-facts, head-holds     a head that fits, both ways
 --     joined, parted                a row; a pair
-use mathlib.Core.Path.{_≡_, refl, sym, _∙_}
+use mathlib.Core.Path.{_≡_, refl, sym, ap, _∙_}
 use mathlib.Core.Logic.{_⊎_, inl, inr, ⊎-elim}
-use mathlib.Core.Bool.{Bool, true, false, false≢true}
+use mathlib.Core.Bool.{Bool, true, false, cond, false≢true}
 use mathlib.Core.List.{List}
 use Prim.Native.Nat.{ℕ, _<_, _≤_}
-use borrow.Author.Tests.{eqb-true, eqb-false, eq-eqb, leb-true, leb-false, ltb-true, le-leb}
+use native.Mathlib.Omega.{arith}
+use borrow.Author.Tests.{eqb-true, eqb-false, eq-eqb, ne-eqb, leb-true, leb-false, ltb-true, le-leb}
 use lib.Dec.{T, eqb, leb}
 use Rattle.basis.specs.Test.{_and_, _or_, non}
 use Rattle.basis.proofs.BoolLaws.{true-T, T-true, and-both, or-either, or-holds, or-second, cond-cases, non-true, non-holds, both-hold}
@@ -18,11 +20,11 @@ use Rattle.format.specs.declared.Head.{Head}
 use Rattle.format.specs.declared.Shape.{Shape}
 use Rattle.format.specs.declared.Row.{Row}
 use Rattle.format.specs.declared.Pair.{Pair}
-use Rattle.format.specs.Limits.{maxAgents, maxMemory, maxInits, maxOthers}
-use Rattle.format.specs.Shape.{sc, divides}
+use Rattle.format.specs.Limits.{maxEdition, maxAgents, maxMemory, maxInits, maxOthers}
+use Rattle.format.specs.Shape.{marks, unordered, sc, divides, unbroken, tearOf}
 use Rattle.format.specs.Event.{Event, readsAt, writesAt, isMarker}
 use Rattle.format.specs.Execution.{eventNo}
-use Rattle.content.specs.Content.{within, headFits, initFormed, sized, kindFits, otherFormed, formed, roomIn, joins, parts}
+use Rattle.content.specs.Content.{within, headFits, initFormed, sized, kindFits, otherFormed, formed, tearFits, roomIn, joins, parts}
 
 -- a number between two
 pub within-elim : (lo hi n : ℕ) → within lo hi n ≡ true → (lo ≤ n) × (n ≤ hi)
@@ -165,23 +167,106 @@ formed-holds agents agent a (inr f) = go (f .mode)
     go (inl m) = simp (m, z)
     go (inr m) = simp (m, z)
 
--- 01: "edition (1), agents (1 to 8), memory size in bytes (1 to 64)"
+-- ---- the tear byte
+
+-- 02 §4: "It must be 1 for sc reads, writes and read-modify-writes, free for unordered ones of width 1, 2 or 4 whose start is divisible by the width,
+-- 0 for all else"
+pub record TearFacts (a : Shape) : Type 0 where
+  pub byte : a .tear ≤ 1
+  pub must : a .mode ≡ 2 → (a .kind ≡ 4 → ⊥) → a .tear ≡ 1
+  pub none-else : (a .mode ≡ 2 → a .kind ≡ 4) → (a .mode ≡ 1 → T (unbroken (a .width) (a .start)) → ⊥) → a .tear ≡ 0
+
+-- by the tests for a marker, sc, unordered and unbroken
+abbrev ruled : Bool → Bool → Bool → Bool → ℕ
+ruled k m o u = cond (non k and (m or (o and u))) 1 0
+
+by-rule : (k m o u : Bool) → cond (m and non k) (eqb (ruled k m o u) 1) (cond (o and u) (leb (ruled k m o u) 1) (eqb (ruled k m o u) 0)) ≡ true
+unfolding _and_ _or_ non
+by-rule false true o u = refl
+by-rule true true true true = refl
+by-rule true true true false = refl
+by-rule true true false u = refl
+by-rule true false true true = refl
+by-rule true false true false = refl
+by-rule true false false u = refl
+by-rule false false true true = refl
+by-rule false false true false = refl
+by-rule false false false u = refl
+
+module _ (a : Shape) where
+  -- the two tests, as facts
+  abbrev must-be : Bool
+  must-be = sc a and non (marks a)
+
+  abbrev may-be : Bool
+  may-be = unordered a and unbroken (a .width) (a .start)
+
+  must-true : must-be ≡ true → (a .mode ≡ 2) × (a .kind ≡ 4 → ⊥)
+  unfolding sc marks
+  must-true p = let w = and-both (eqb (a .mode) 2) _ p in (eqb-true _ _ (w .0), eqb-false _ _ (non-true _ (w .1)))
+
+  must-false : must-be ≡ false → a .mode ≡ 2 → (a .kind ≡ 4 → ⊥) → ⊥
+  unfolding sc marks
+  must-false p m k = false≢true (sym p ∙ both-hold (eqb (a .mode) 2) _ (eq-eqb _ _ m) (non-holds _ (ne-eqb _ _ k)))
+
+  may-true : may-be ≡ true → (a .mode ≡ 1) × T (unbroken (a .width) (a .start))
+  unfolding unordered
+  may-true p = let w = and-both (eqb (a .mode) 1) _ p in (eqb-true _ _ (w .0), true-T _ (w .1))
+
+  may-false : may-be ≡ false → a .mode ≡ 1 → T (unbroken (a .width) (a .start)) → ⊥
+  unfolding unordered
+  may-false p m u = false≢true (sym p ∙ both-hold (eqb (a .mode) 1) _ (eq-eqb _ _ m) (T-true _ u))
+
+  pub tear-facts : tearFits a ≡ true → TearFacts a
+  unfolding tearFits
+  tear-facts h = go must-be refl may-be refl
+    where
+      go : (b : Bool) → must-be ≡ b → (c : Bool) → may-be ≡ c → TearFacts a
+      go true p c q =
+          let t : a .tear ≡ 1 = eqb-true _ _ (rw p at h) in
+          let w = must-true p in
+          record { byte = omega arith; must = λ _ _. t; none-else = λ f _. absurd (w .1 (f (w .0))) }
+      go false p true q =
+          let t : a .tear ≤ 1 = leb-true _ _ (rw (p, q) at h) in
+          let w = may-true q in
+          record { byte = t; must = λ m k. absurd (must-false p m k); none-else = λ _ g. absurd (g (w .0) (w .1)) }
+      go false p false q =
+          let t : a .tear ≡ 0 = eqb-true _ _ (rw (p, q) at h) in
+          record { byte = omega arith; must = λ m k. absurd (must-false p m k); none-else = λ _ _. t }
+
+  pub tear-holds : TearFacts a → tearFits a ≡ true
+  unfolding tearFits
+  tear-holds f = go must-be refl may-be refl (eqb (a .kind) 4) refl
+    where
+      go : (b : Bool) → must-be ≡ b → (c : Bool) → may-be ≡ c → (d : Bool) → eqb (a .kind) 4 ≡ d → tearFits a ≡ true
+      go true p c q d r = let w = must-true p in rw p (eq-eqb _ _ (f .must (w .0) (w .1)))
+      go false p true q d r = rw (p, q) (le-leb _ _ (f .byte))
+      go false p false q true r = rw (p, q) (eq-eqb _ _ (f .none-else (λ _. eqb-true _ _ r) (may-false q)))
+      go false p false q false r = rw (p, q) (eq-eqb _ _ (f .none-else (λ m. absurd (must-false p m (eqb-false _ _ r))) (may-false q)))
+
+  -- at edition 1 the tear byte never fails
+  pub rule-fits : a .tear ≡ tearOf (a .kind) (a .mode) (a .start) (a .width) → tearFits a ≡ true
+  unfolding tearFits tearOf sc marks unordered
+  rule-fits h =
+      ap (λ (t : ℕ). cond must-be (eqb t 1) (cond may-be (leb t 1) (eqb t 0))) h ∙ by-rule (eqb (a .kind) 4) (eqb (a .mode) 2) (eqb (a .mode) 1) (unbroken (a .width) (a .start))
+
+-- 01: "edition (1), agents (1 to 8), memory size in bytes (1 to 64)"; 02 §4 adds edition 2
 pub record HeadFacts (h : Head) : Type 0 where
-  pub edition : h .edition ≡ 1
+  pub edition : (1 ≤ h .edition) × (h .edition ≤ maxEdition)
   pub agents : (1 ≤ h .agents) × (h .agents ≤ maxAgents)
   pub size : (1 ≤ h .size) × (h .size ≤ maxMemory)
 
 pub head-facts : (h : Head) → headFits h ≡ true → HeadFacts h
 unfolding headFits
 head-facts h f =
-    let w = and-both (eqb (h .edition) 1) _ f in
+    let w = and-both (within 1 maxEdition (h .edition)) _ f in
     let v = and-both (within 1 maxAgents (h .agents)) (within 1 maxMemory (h .size)) (w .1) in
-    record { edition = eqb-true _ _ (w .0); agents = within-elim _ _ _ (v .0); size = within-elim _ _ _ (v .1) }
+    record { edition = within-elim _ _ _ (w .0); agents = within-elim _ _ _ (v .0); size = within-elim _ _ _ (v .1) }
 
 pub head-holds : (h : Head) → HeadFacts h → headFits h ≡ true
 unfolding headFits
 head-holds h f =
-    both-hold (eqb (h .edition) 1) _ (eq-eqb _ _ (f .edition))
+    both-hold (within 1 maxEdition (h .edition)) _ (within-holds 1 maxEdition _ (f .edition .0) (f .edition .1))
     (both-hold (within 1 maxAgents (h .agents)) (within 1 maxMemory (h .size)) (within-holds 1 maxAgents _ (f .agents .0) (f .agents .1)) (within-holds 1 maxMemory _ (f .size .0) (f .size .1)))
 
 -- ---- a row, a pair

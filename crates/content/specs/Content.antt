@@ -1,7 +1,7 @@
 -- The content of a field (01, "The sheet"): one test for each sentence, used by the tests of a field and by what is promised of a whole sheet.
 -- Laws: proofs/ContentLaws.antt; what they say together of an event: crates/parse/proofs/EventLaws.antt.
 --     headFits                      a head's three numbers
---     inside, formed, alone         an event by itself: range within the memory; agent, kind, mode, width, alignment; both
+--     inside, formed, tearFits, alone     an event by itself: range within the memory; agent, kind, mode, width, alignment; tear byte; all of it
 --     standsFirst                   an init among the events before it
 --     eventFits, roomIn, roomFor    an event's content; the count of events
 --     joins, rowRises, rowFits      a row by itself, after the rows before it, both
@@ -17,8 +17,8 @@ use Rattle.format.specs.declared.Head.{Head}
 use Rattle.format.specs.declared.Shape.{Shape}
 use Rattle.format.specs.declared.Row.{Row}
 use Rattle.format.specs.declared.Pair.{Pair}
-use Rattle.format.specs.Limits.{maxAgents, maxMemory, maxInits, maxOthers}
-use Rattle.format.specs.Shape.{initial, sc, divides}
+use Rattle.format.specs.Limits.{maxEdition, maxAgents, maxMemory, maxInits, maxOthers}
+use Rattle.format.specs.Shape.{marks, initial, unordered, sc, divides, unbroken}
 use Rattle.format.specs.Event.{Event, isInit, meets, readsAt, writesAt, isMarker}
 use Rattle.format.specs.Execution.{eventNo, inits, others, rowBelow, pairBelow, noRow, noPair}
 
@@ -26,9 +26,9 @@ use Rattle.format.specs.Execution.{eventNo, inits, others, rowBelow, pairBelow,
 unfoldable pub within : ℕ → ℕ → ℕ → Bool
 within lo hi n = leb lo n and leb n hi
 
--- 01: "edition (1), agents (1 to 8), memory size in bytes (1 to 64)"
+-- 01: "edition (1), agents (1 to 8), memory size in bytes (1 to 64)"; 02 §4 adds edition 2
 unfoldable pub headFits : Head → Bool
-headFits h = eqb (h .edition) 1 and within 1 maxAgents (h .agents) and within 1 maxMemory (h .size)
+headFits h = within 1 maxEdition (h .edition) and within 1 maxAgents (h .agents) and within 1 maxMemory (h .size)
 
 -- 01: "Start plus width is at most the memory size."
 unfoldable pub inside : ℕ → Shape → Bool
@@ -62,8 +62,15 @@ formed agents agent a =
     (cond (eqb (a .mode) 1) (otherFormed agents agent a)
     (cond (eqb (a .mode) 2) (otherFormed agents agent a) false))
 
+-- 02 §4: "It must be 1 for sc reads, writes and read-modify-writes, free for unordered ones of width 1, 2 or 4 whose start is divisible by the width,
+-- 0 for all else"; free is "0 may tear, 1 tear-free". What 01's rule gives at edition 1 is among it (`rule-fits`).
+unfoldable pub tearFits : Shape → Bool
+tearFits a =
+    cond (sc a and non (marks a)) (eqb (a .tear) 1)
+    (cond (unordered a and unbroken (a .width) (a .start)) (leb (a .tear) 1) (eqb (a .tear) 0))
+
 unfoldable pub alone : Head → ℕ → Shape → Bool
-alone h agent a = inside (h .size) a and formed (h .agents) agent a
+alone h agent a = inside (h .size) a and formed (h .agents) agent a and tearFits a
 
 -- 01: "Inits stand before all other events and their ranges are disjoint."
 unfoldable pub standsFirst : List Event → Shape → Bool

@@ -3,8 +3,9 @@
 use format::Head;
 use format::MAX_MEMORY;
 use format::Shape;
+use ranges::unbroken;
 ghost use mathlib.Core.Path.{_≡_};
-ghost use Rattle.content.specs.Content.{within, inside, initFormed, sized, kindFits, otherFormed, formed, alone};
+ghost use Rattle.content.specs.Content.{within, inside, initFormed, sized, kindFits, otherFormed, formed, tearFits, alone};
 
 pub fn within(lo: u8, hi: u8, n: u8) -> bool
     ensures { λ r. ⌜ r ≡ within lo hi n ⌝ }
@@ -67,9 +68,24 @@ fn formed(agents: u8, agent: u8, a: Shape) -> bool
     }
 }
 
+// The tear byte: 1 for sc accesses, 0 or 1 for unordered ones that could be tear-free, 0 for all else.
+fn tear_fits(a: Shape) -> bool
+    ensures { λ r. ⌜ r ≡ tearFits a ⌝ }
+{
+    let sc = access::sc(a) & !access::marks(a);
+    if sc {
+        return a.tear == 1;
+    }
+    let free = (a.mode == 1) & unbroken(a.width, a.start);
+    if free {
+        return a.tear <= 1;
+    }
+    a.tear == 0
+}
+
 // An event, whatever stands before it.
 pub fn alone(h: Head, agent: u8, a: Shape) -> bool
     ensures { λ r. ⌜ r ≡ alone h agent a ⌝ }
 {
-    inside(h.size, a) & formed(h.agents, agent, a)
+    inside(h.size, a) & (formed(h.agents, agent, a) & tear_fits(a))
 }

@@ -2,7 +2,10 @@
 --     run-snoc, run-each            one entry more; of a mapped list
 --     length-field                  the bytes of a field
 --     field-back                    a short field of a sheet is the field of its tag and value
---     event-back, event-clean-back, event-short     an event's value without a fault is the value of its description, and is short
+--     laid-long, laid-shape, laid-data     the bytes before an event's data and the data, as a value: its length, its shape, its data
+--     tear-again                    a tear byte that a sheet says is said again
+--     said-long, said-shape         the value of a description: its length, its shape
+--     event-clean-back, event-short     an event's value without a fault is the value of its description, and is short
 --     event-forth                   a description whose value has no fault is what its value describes
 --     row-back, pair-back, head-back
 --     sheet-split                   the parts of a sheet
@@ -29,8 +32,8 @@ use Rattle.format.specs.Shape.{tearOf}
 use Rattle.format.specs.Event.{Access, Event}
 use Rattle.format.specs.Execution.{Execution}
 use Rattle.format.specs.Field.{tagAt, lengthAt, nextAt, valueAt}
-use Rattle.format.specs.Layout.{editionOf, headBytes, eventBytes, dataBytes, rowBytes, pairBytes, headOf, shapeOf, seenOf, writtenOf, accessOf, eventOf, rowOf, pairOf}
-use Rattle.format.proofs.LayoutLaws.{data-whole}
+use Rattle.format.specs.Layout.{editionOf, headBytes, eventBytes, tearBy, dataBytes, rowBytes, pairBytes, headOf, agentOf, shapeOf, seenOf, writtenOf, accessOf, eventOf, rowOf, pairOf}
+use Rattle.format.proofs.LayoutLaws.{event-high, data-whole}
 use Rattle.parse.specs.Parse.{eventFault}
 use Rattle.parse.specs.Promise.{WellEvent}
 use Rattle.parse.proofs.ParseLaws.{event-passed}
@@ -105,6 +108,69 @@ five (a ∷ b ∷ c ∷ []) h = absurd (omega arith)
 five (a ∷ b ∷ c ∷ d ∷ []) h = absurd (omega arith)
 five (a ∷ b ∷ c ∷ d ∷ e ∷ l) h = refl
 
+one : (l : List ℕ) → 1 ≤ length l → l ≡ getD l 0 0 ∷ drop 1 l
+one [] h = absurd (omega arith)
+one (a ∷ l) h = refl
+
+-- ---- the bytes before an event's data, by the edition
+
+module _ (edition g k m s w t : ℕ) (b : List ℕ) where
+  abbrev pub laid : List ℕ
+  laid = take (eventBytes edition) (g ∷ k ∷ m ∷ s ∷ w ∷ t ∷ []) ++ b
+
+  abbrev laid-by : Bool → List ℕ
+  laid-by c = take (cond c 6 5) (g ∷ k ∷ m ∷ s ∷ w ∷ t ∷ []) ++ b
+
+  pub laid-long : length laid ≡ eventBytes edition + length b
+  unfolding eventBytes
+  laid-long = go (eqb edition 2)
+    where
+      go : (c : Bool) → length (laid-by c) ≡ cond c 6 5 + length b
+      go true = omega arith
+      go false = omega arith
+
+  pub laid-data : drop (eventBytes edition) laid ≡ b
+  unfolding eventBytes
+  laid-data = go (eqb edition 2)
+    where
+      go : (c : Bool) → drop (cond c 6 5) (laid-by c) ≡ b
+      go true = refl
+      go false = refl
+
+  pub laid-agent : agentOf laid ≡ g
+  unfolding eventBytes
+  laid-agent = go (eqb edition 2)
+    where
+      go : (c : Bool) → agentOf (laid-by c) ≡ g
+      go true = refl
+      go false = refl
+
+  pub laid-shape : shapeOf edition laid ≡ record { kind = k; mode = m; start = s; width = w; tear = tearBy edition k m s w t }
+  unfolding eventBytes tearBy
+  laid-shape = go (eqb edition 2)
+    where
+      go : (c : Bool)
+          → _≡_ {A = Shape}
+          (record {
+            kind = getD (laid-by c) 1 0;
+            mode = getD (laid-by c) 2 0;
+            start = getD (laid-by c) 3 0;
+            width = getD (laid-by c) 4 0;
+            tear = cond c (getD (laid-by c) 5 0) (tearOf (getD (laid-by c) 1 0) (getD (laid-by c) 2 0) (getD (laid-by c) 3 0) (getD (laid-by c) 4 0));
+          })
+          (record { kind = k; mode = m; start = s; width = w; tear = cond c t (tearOf k m s w) })
+      go true = refl
+      go false = refl
+
+-- a tear byte that a sheet says is said again
+pub tear-again : (edition k m s w t : ℕ) → tearBy edition k m s w (tearBy edition k m s w t) ≡ tearBy edition k m s w t
+unfolding tearBy
+tear-again edition k m s w t = go (eqb edition 2)
+  where
+    go : (c : Bool) → cond c (cond c t (tearOf k m s w)) (tearOf k m s w) ≡ cond c t (tearOf k m s w)
+    go true = refl
+    go false = refl
+
 pub head-back : (v : List ℕ) → length v ≡ headBytes (editionOf v) → headValue (headOf (editionOf v) v) ≡ v
 unfolding headBytes
 head-back v h = sym (three v h)
@@ -156,43 +222,79 @@ module _ (h : Head) (events : List Event) (v : List ℕ) (e : eventFault h event
       data-whole (h .edition) v (k .low) (k .high) (k .marker)
       ∙ take-all (dataBytes (shapeOf (h .edition) v)) (drop (eventBytes (h .edition)) v) (simp length-drop (omega arith))
 
-  five-long : 5 ≤ length v
-  unfolding eventBytes
-  five-long = let l = event-passed h events v e .length in omega arith
+  -- its front and its data
+  value-split : take (eventBytes (h .edition)) (getD v 0 0 ∷ getD v 1 0 ∷ getD v 2 0 ∷ getD v 3 0 ∷ getD v 4 0 ∷ shapeOf (h .edition) v .tear ∷ [])
+      ++ drop (eventBytes (h .edition)) v ≡ v
+  unfolding eventBytes tearBy
+  value-split = let l = event-passed h events v e .length in go (eqb (h .edition) 2) l
+    where
+      go : (c : Bool) → length v ≡ cond c 6 5 + dataBytes (shapeOf (h .edition) v)
+          → take (cond c 6 5) (getD v 0 0 ∷ getD v 1 0 ∷ getD v 2 0 ∷ getD v 3 0 ∷ getD v 4 0 ∷ cond c (getD v 5 0) (tearOf (getD v 1 0) (getD v 2 0) (getD v 3 0) (getD v 4 0)) ∷ [])
+          ++ drop (cond c 6 5) v ≡ v
+      go true l =
+          sym (five v (omega arith)
+          ∙ ap (λ (u : List ℕ). getD v 0 0 ∷ getD v 1 0 ∷ getD v 2 0 ∷ getD v 3 0 ∷ getD v 4 0 ∷ u)
+          (one (drop 5 v) (simp length-drop (omega arith)) ∙ ap (λ (n : ℕ). n ∷ drop 1 (drop 5 v)) (getD-drop 5 v 0 0) ∙ ap (λ (u : List ℕ). getD v 5 0 ∷ u) (drop-drop 1 5 v)))
+      go false l = sym (five v (omega arith))
 
   -- a value without a fault is the value of its description
   pub event-clean-back : eventValue (h .edition) (describe (eventOf (h .edition) v)) ≡ v
-  unfolding describe kindByte eventBytes
+  unfolding describe kindByte
   event-clean-back =
-      let g : describe (eventOf (h .edition) v) .tear ≡ tearOf (getD v 1 0) (getD v 2 0) (getD v 3 0) (getD v 4 0) = refl in
-      rw (eq-eqb _ _ g, data-back) (sym (five v five-long))
+      let g = sym (tear-again (h .edition) (getD v 1 0) (getD v 2 0) (getD v 3 0) (getD v 4 0) (getD v 5 0)) in
+      rw (eq-eqb _ _ g, data-back) value-split
 
   -- and is short
   pub event-short : length v < 256
-  unfolding eventBytes dataBytes
+  unfolding dataBytes
   event-short = let l = event-passed h events v e .length in go (eqb (shapeOf (h .edition) v .kind) 3) l
     where
-      go : (b : Bool) → length v ≡ 5 + cond b (shapeOf (h .edition) v .width + shapeOf (h .edition) v .width) (shapeOf (h .edition) v .width) → length v < 256
-      go true l = let k = well-kinds .narrow in omega arith
-      go false l = let k = well-kinds .narrow in omega arith
+      go : (b : Bool) → length v ≡ eventBytes (h .edition) + cond b (shapeOf (h .edition) v .width + shapeOf (h .edition) v .width) (shapeOf (h .edition) v .width) → length v < 256
+      go true l = let k = well-kinds .narrow in let u = event-high (h .edition) in omega arith
+      go false l = let k = well-kinds .narrow in let u = event-high (h .edition) in omega arith
 
 -- and the other way: a description whose value has no fault is what its value describes
-kind-kept : (d : Description) → 1 ≤ kindByte d → (kindByte d ≡ d .kind) × (tearOf (d .kind) (d .mode) (d .start) (d .width) ≡ d .tear)
-unfolding kindByte
-kind-kept d h = go (eqb (d .tear) (tearOf (d .kind) (d .mode) (d .start) (d .width))) refl h
-  where
-    go : (b : Bool) → eqb (d .tear) (tearOf (d .kind) (d .mode) (d .start) (d .width)) ≡ b → 1 ≤ cond b (d .kind) 0
-        → (cond b (d .kind) 0 ≡ d .kind) × (tearOf (d .kind) (d .mode) (d .start) (d .width) ≡ d .tear)
-    go true p q = (refl, sym (eqb-true _ _ p))
-    go false p q = absurd (omega arith)
+module _ (edition : ℕ) (d : Description) where
+  abbrev tear-said : ℕ
+  tear-said = tearBy edition (d .kind) (d .mode) (d .start) (d .width) (d .tear)
+
+  kind-kept : 1 ≤ kindByte edition d → (kindByte edition d ≡ d .kind) × (tear-said ≡ d .tear)
+  unfolding kindByte
+  kind-kept h = go (eqb (d .tear) tear-said) refl h
+    where
+      go : (b : Bool) → eqb (d .tear) tear-said ≡ b → 1 ≤ cond b (d .kind) 0 → (cond b (d .kind) 0 ≡ d .kind) × (tear-said ≡ d .tear)
+      go true p q = (refl, sym (eqb-true _ _ p))
+      go false p q = absurd (omega arith)
+
+  -- how long its value is, and what it says
+  pub said-long : length (eventValue edition d) ≡ eventBytes edition + length (d .bytes)
+  said-long = laid-long edition (d .agent) (kindByte edition d) (d .mode) (d .start) (d .width) (d .tear) (d .bytes)
+
+  pub said-shape : shapeOf edition (eventValue edition d)
+      ≡ record { kind = kindByte edition d; mode = d .mode; start = d .start; width = d .width; tear = tearBy edition (kindByte edition d) (d .mode) (d .start) (d .width) (d .tear) }
+  said-shape = laid-shape edition (d .agent) (kindByte edition d) (d .mode) (d .start) (d .width) (d .tear) (d .bytes)
+
+-- the parts of a description
+described : {g g′ : ℕ} {a a′ : Shape} {b b′ : List ℕ} → g ≡ g′ → a ≡ a′ → b ≡ b′
+    → _≡_ {A = Description}
+    (record { agent = g; kind = a .kind; mode = a .mode; start = a .start; width = a .width; tear = a .tear; bytes = b })
+    (record { agent = g′; kind = a′ .kind; mode = a′ .mode; start = a′ .start; width = a′ .width; tear = a′ .tear; bytes = b′ })
+described p q r = λ i. record { agent = p i; kind = q i .kind; mode = q i .mode; start = q i .start; width = q i .width; tear = q i .tear; bytes = r i }
+
+abbrev said : Description → ℕ → ℕ → Description
+said d kind tear = record { agent = d .agent; kind = kind; mode = d .mode; start = d .start; width = d .width; tear = tear; bytes = d .bytes }
 
 pub event-forth : (h : Head) (events : List Event) (d : Description) → eventFault h events (eventValue (h .edition) d) ≡ 0
     → describe (eventOf (h .edition) (eventValue (h .edition) d)) ≡ d
-unfolding describe eventBytes
+unfolding describe
 event-forth h events d e =
-    let b = data-back h events (eventValue (h .edition) d) e in
-    let q = kind-kept d (well-kinds h events (eventValue (h .edition) d) e .low) in
-    rw (b, q .0, q .1) refl
+    let v = eventValue (h .edition) d in
+    let b : seenOf (h .edition) v ++ writtenOf (h .edition) v ≡ d .bytes =
+    data-back h events v e ∙ laid-data (h .edition) (d .agent) (kindByte (h .edition) d) (d .mode) (d .start) (d .width) (d .tear) (d .bytes) in
+    let a = said-shape (h .edition) d in
+    let g = laid-agent (h .edition) (d .agent) (kindByte (h .edition) d) (d .mode) (d .start) (d .width) (d .tear) (d .bytes) in
+    let q = kind-kept (h .edition) d (subst (λ (y : Shape). 1 ≤ y .kind) a (well-kinds h events v e .low)) in
+    described g a b ∙ ap (λ (n : ℕ). said d n (tearBy (h .edition) n (d .mode) (d .start) (d .width) (d .tear))) (q .0) ∙ ap (said d (d .kind)) (q .1)
 
 -- ---- the bytes of a table with one field more at its end
 

@@ -16,6 +16,7 @@ use Rattle.format.specs.Limits.{maxBytes}
 use Rattle.format.specs.Event.{Event, nobody}
 use Rattle.format.specs.Execution.{Execution, eventNo, event, noRow, noPair}
 use Rattle.format.specs.Layout.{eventBytes, dataBytes}
+use Rattle.format.proofs.LayoutLaws.{event-high}
 use Rattle.parse.specs.Parse.{whole, parse}
 use Rattle.parse.specs.Promise.{WellEvent, WellFormed}
 use Rattle.parse.proofs.CountLaws.{rows-few, events-few}
@@ -42,25 +43,25 @@ module _ (x : Execution) (w : WellFormed x) where
   edition = x .head .edition
 
   -- twice 64 bytes of data, at most
-  event-short : (e : ℕ) → e < length (x .events) → 3 + length (eventValue edition (describe (getD (x .events) e nobody))) ≤ 136
-  unfolding event eventNo dataBytes eventBytes
+  event-short : (e : ℕ) → e < length (x .events) → 3 + length (eventValue edition (describe (getD (x .events) e nobody))) ≤ 137
+  unfolding event eventNo dataBytes
   event-short e b = go (eqb (v .access .shape .kind) 3) (plain-long (x .head) (event x e) v)
     where
       v : WellEvent (x .head) (event x e)
       v = w .events e b
 
-      go : (c : Bool) → length (eventValue edition (describe (event x e))) ≡ 5 + cond c (v .access .shape .width + v .access .shape .width) (v .access .shape .width)
-          → 3 + length (eventValue edition (describe (event x e))) ≤ 136
-      go true l = let i = v .inside in let s = w .size .1 in omega arith
-      go false l = let i = v .inside in let s = w .size .1 in omega arith
+      go : (c : Bool) → length (eventValue edition (describe (event x e))) ≡ eventBytes edition + cond c (v .access .shape .width + v .access .shape .width) (v .access .shape .width)
+          → 3 + length (eventValue edition (describe (event x e))) ≤ 137
+      go true l = let i = v .inside in let s = w .size .1 in let u = event-high edition in omega arith
+      go false l = let i = v .inside in let s = w .size .1 in let u = event-high edition in omega arith
 
   pub short-sheet : length (encode (tableOf x)) ≤ maxBytes
   unfolding tableOf
   short-sheet =
       let s = ap length (sheet-split (tableOf x)) in
-      let a : length (run 2 (eventValue edition) (each describe (x .events))) ≤ length (x .events) * 136 =
-      subst (λ (l : List ℕ). length l ≤ length (x .events) * 136) (sym (run-each 2 describe (eventValue edition) (x .events)))
-      (run-short nobody 2 (λ (d : Event). eventValue edition (describe d)) 136 (x .events) event-short) in
+      let a : length (run 2 (eventValue edition) (each describe (x .events))) ≤ length (x .events) * 137 =
+      subst (λ (l : List ℕ). length l ≤ length (x .events) * 137) (sym (run-each 2 describe (eventValue edition) (x .events)))
+      (run-short nobody 2 (λ (d : Event). eventValue edition (describe d)) 137 (x .events) event-short) in
       let b : length (run 3 (rowValue edition) (x .rows)) ≤ length (x .rows) * 6 = run-short noRow 3 (rowValue edition) 6 (x .rows) (λ i h. omega arith) in
       let c : length (run 4 pairValue (x .pairs)) ≤ length (x .pairs) * 5 = run-short noPair 4 pairValue 5 (x .pairs) (λ i h. omega arith) in
       let h = length-field 1 (headValue (x .head)) in

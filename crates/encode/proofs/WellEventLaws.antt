@@ -1,25 +1,26 @@
 -- The value of a well-formed event's description: what it says is the event. Assumes nothing.
 --     well-data                     its data is as long as its kind asks
---     value-plain                   its bytes: no tear byte is wrong
+--     value-plain                   its bytes: its edition says its tear byte
 --     event-same, event-long        it describes the event again, and is as long as it should be
 use mathlib.Core.Path.{_≡_, refl, sym, ap, _∙_}
-use mathlib.Core.Bool.{Bool, cond}
+use mathlib.Core.Bool.{Bool, true, false, cond}
 use mathlib.Core.List.{List, [], _∷_, _++_}
 use Prim.Native.Nat.{ℕ, zero, suc, _+_, _≤_}
 use native.Mathlib.Omega.{arith}
-use borrow.Author.Tests.{eq-eqb}
+use borrow.Author.Tests.{eqb-false, eq-eqb}
 use lib.Dec.{eqb}
 use lib.ListN.{length, getD, take, drop, length-append}
 use lib.Seq.{take-all, take-append-seam, drop-append-seam, drop-drop}
 use Rattle.basis.specs.Test.{_or_}
 use Rattle.format.specs.declared.Head.{Head}
 use Rattle.format.specs.declared.Shape.{Shape}
-use Rattle.format.specs.Shape.{reads, writes}
+use Rattle.format.specs.Shape.{reads, writes, tearOf}
 use Rattle.format.specs.Event.{Access, Event, nothing}
-use Rattle.format.specs.Layout.{eventBytes, dataBytes, shapeOf, seenOf, writtenOf, accessOf, eventOf}
+use Rattle.format.specs.Layout.{eventBytes, tearBy, dataBytes, agentOf, shapeOf, seenOf, writtenOf, accessOf, eventOf}
 use Rattle.parse.specs.Promise.{WellEvent}
-use Rattle.encode.specs.Table.{describe}
+use Rattle.encode.specs.Table.{describeBy, describe}
 use Rattle.encode.specs.Encode.{kindByte, eventValue}
+use Rattle.encode.proofs.EncodeLaws.{laid, laid-long, laid-agent, laid-shape, laid-data}
 
 -- ---- by the kind
 
@@ -59,49 +60,76 @@ data-by (suc (suc (suc (suc (suc k))))) n s t a b m p q = absurd (omega arith)
 
 -- ---- an event
 
--- an event with one access, spelled out
-abbrev pub plainly : ℕ → Access → List ℕ
-plainly agent a = agent ∷ a .shape .kind ∷ a .shape .mode ∷ a .shape .start ∷ a .shape .width ∷ (a .seen ++ a .written)
-
 module _ (h : Head) (d : Event) (w : WellEvent h d) where
-  abbrev v : List ℕ
-  v = plainly (d .agent) (w .access)
+  abbrev a : Shape
+  a = w .access .shape
 
-  pub well-data : length (w .access .seen ++ w .access .written) ≡ dataBytes (w .access .shape)
+  abbrev bytes : List ℕ
+  bytes = w .access .seen ++ w .access .written
+
+  -- its bytes, spelled out
+  abbrev v : List ℕ
+  v = laid (h .edition) (d .agent) (a .kind) (a .mode) (a .start) (a .width) (a .tear) bytes
+
+  pub well-data : length bytes ≡ dataBytes a
   unfolding dataBytes reads writes
-  well-data =
-      data-by (w .access .shape .kind) (w .access .shape .width) (w .access .seen) (w .access .written) (w .kind .0) (w .kind .1) (λ k. w .marker k .2) (w .seen) (w .written)
+  well-data = data-by (a .kind) (a .width) (w .access .seen) (w .access .written) (w .kind .0) (w .kind .1) (λ k. w .marker k .2) (w .seen) (w .written)
+
+  -- a sheet of its edition says its tear byte
+  tear-kept : tearBy (h .edition) (a .kind) (a .mode) (a .start) (a .width) (a .tear) ≡ a .tear
+  unfolding tearBy
+  tear-kept = go (eqb (h .edition) 2) refl
+    where
+      go : (c : Bool) → eqb (h .edition) 2 ≡ c → cond c (a .tear) (tearOf (a .kind) (a .mode) (a .start) (a .width)) ≡ a .tear
+      go true p = refl
+      go false p = sym (w .tear-rule (eqb-false _ _ p))
 
   pub value-plain : eventValue (h .edition) (describe d) ≡ v
   unfolding describe kindByte
   value-plain =
-      ap (λ (l : List Access). eventValue (h .edition) (record { agent = d .agent; kind = getD l 0 nothing .shape .kind; mode = getD l 0 nothing .shape .mode; start = getD l 0 nothing .shape .start; width = getD l 0 nothing .shape .width; tear = getD l 0 nothing .shape .tear; bytes = getD l 0 nothing .seen ++ getD l 0 nothing .written })) (w .one-access)
-      ∙ ap (λ (b : Bool). d .agent ∷ cond b (w .access .shape .kind) 0 ∷ w .access .shape .mode ∷ w .access .shape .start ∷ w .access .shape .width ∷ (w .access .seen ++ w .access .written)) (eq-eqb _ _ (w .tear))
+      ap (λ (l : List Access). eventValue (h .edition) (describeBy (d .agent) (getD l 0 nothing))) (w .one-access)
+      ∙ ap (λ (c : Bool). laid (h .edition) (d .agent) (cond c (a .kind) 0) (a .mode) (a .start) (a .width) (a .tear) bytes) (eq-eqb _ _ (sym tear-kept))
 
-  shape-same : shapeOf (h .edition) v ≡ w .access .shape
+  shape-same : shapeOf (h .edition) v ≡ a
   shape-same =
-      ap (λ (t : ℕ). record { kind = w .access .shape .kind; mode = w .access .shape .mode; start = w .access .shape .start; width = w .access .shape .width; tear = t }) (sym (w .tear))
+      laid-shape (h .edition) (d .agent) (a .kind) (a .mode) (a .start) (a .width) (a .tear) bytes
+      ∙ ap (λ (t : ℕ). record { kind = a .kind; mode = a .mode; start = a .start; width = a .width; tear = t }) tear-kept
+
+  data-same : drop (eventBytes (h .edition)) v ≡ bytes
+  data-same = laid-data (h .edition) (d .agent) (a .kind) (a .mode) (a .start) (a .width) (a .tear) bytes
 
   seen-same : seenOf (h .edition) v ≡ w .access .seen
-  unfolding seenOf eventBytes reads
-  seen-same = seen-by (w .access .shape .kind) (w .access .shape .width) (w .access .seen) (w .access .written) (w .kind .0) (w .kind .1) (w .seen)
+  unfolding seenOf reads
+  seen-same =
+      ap (λ (b : Shape). cond (reads b) (take (b .width) (drop (eventBytes (h .edition)) v)) []) shape-same
+      ∙ ap (λ (l : List ℕ). cond (reads a) (take (a .width) l) []) data-same
+      ∙ seen-by (a .kind) (a .width) (w .access .seen) (w .access .written) (w .kind .0) (w .kind .1) (w .seen)
 
   written-same : writtenOf (h .edition) v ≡ w .access .written
-  unfolding writtenOf eventBytes reads writes
+  unfolding writtenOf reads writes
   written-same =
-      rw (← (drop-drop (w .access .shape .width) 5 v)) (written-by (w .access .shape .kind) (w .access .shape .width) (w .access .seen) (w .access .written) (w .kind .0) (w .kind .1) (w .seen) (w .written))
+      ap (λ (b : Shape). cond (eqb (b .kind) 2) (take (b .width) (drop (eventBytes (h .edition)) v)) (cond (eqb (b .kind) 3) (take (b .width) (drop (eventBytes (h .edition) + b .width) v)) [])) shape-same
+      ∙ ap (λ (l : List ℕ). cond (eqb (a .kind) 2) (take (a .width) (drop (eventBytes (h .edition)) v)) (cond (eqb (a .kind) 3) (take (a .width) l) [])) (sym (drop-drop (a .width) (eventBytes (h .edition)) v))
+      ∙ ap (λ (l : List ℕ). cond (eqb (a .kind) 2) (take (a .width) l) (cond (eqb (a .kind) 3) (take (a .width) (drop (a .width) l)) [])) data-same
+      ∙ written-by (a .kind) (a .width) (w .access .seen) (w .access .written) (w .kind .0) (w .kind .1) (w .seen) (w .written)
 
   access-same : accessOf (h .edition) v ≡ w .access
-  access-same = rw (shape-same, seen-same, written-same) refl
+  access-same = λ i. record { shape = shape-same i; seen = seen-same i; written = written-same i }
+
+  agent-same : agentOf v ≡ d .agent
+  agent-same = laid-agent (h .edition) (d .agent) (a .kind) (a .mode) (a .start) (a .width) (a .tear) bytes
 
   pub event-same : eventOf (h .edition) (eventValue (h .edition) (describe d)) ≡ d
   event-same =
-      ap (eventOf (h .edition)) value-plain ∙ ap (λ (a : Access). record { agent = d .agent; accesses = a ∷ [] }) access-same
+      ap (eventOf (h .edition)) value-plain
+      ∙ ap (λ (g : ℕ). record { agent = g; accesses = accessOf (h .edition) v ∷ [] }) agent-same
+      ∙ ap (λ (y : Access). record { agent = d .agent; accesses = y ∷ [] }) access-same
       ∙ ap (λ (l : List Access). record { agent = d .agent; accesses = l }) (sym (w .one-access))
 
-  pub plain-long : length (eventValue (h .edition) (describe d)) ≡ eventBytes (h .edition) + dataBytes (w .access .shape)
-  unfolding eventBytes
-  plain-long = ap length value-plain ∙ (let l = well-data in omega arith)
+  pub plain-long : length (eventValue (h .edition) (describe d)) ≡ eventBytes (h .edition) + dataBytes a
+  plain-long =
+      ap length value-plain ∙ laid-long (h .edition) (d .agent) (a .kind) (a .mode) (a .start) (a .width) (a .tear) bytes
+      ∙ ap (λ (n : ℕ). eventBytes (h .edition) + n) well-data
 
   pub event-long : length (eventValue (h .edition) (describe d)) ≡ eventBytes (h .edition) + dataBytes (shapeOf (h .edition) (eventValue (h .edition) (describe d)))
-  event-long = plain-long ∙ ap (λ (a : Shape). eventBytes (h .edition) + dataBytes a) (sym (ap (shapeOf (h .edition)) value-plain ∙ shape-same))
+  event-long = plain-long ∙ ap (λ (b : Shape). eventBytes (h .edition) + dataBytes b) (sym (ap (shapeOf (h .edition)) value-plain ∙ shape-same))

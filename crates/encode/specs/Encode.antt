@@ -8,11 +8,11 @@ use mathlib.Core.Bool.{cond}
 use mathlib.Core.List.{List, [], _∷_, _++_}
 use Prim.Native.Nat.{ℕ, _/_, _%_}
 use lib.Dec.{eqb}
-use lib.ListN.{length}
+use lib.ListN.{length, take}
 use Rattle.format.specs.declared.Head.{Head}
 use Rattle.format.specs.declared.Row.{Row}
 use Rattle.format.specs.declared.Pair.{Pair}
-use Rattle.format.specs.Shape.{tearOf}
+use Rattle.format.specs.Layout.{eventBytes, tearBy}
 use Rattle.encode.specs.Table.{Description, Table}
 
 -- 01: "tag (1 byte), length (2 bytes, most significant first), value". Two bytes hold lengths below 65,536; a longer value makes the sheet too
@@ -20,18 +20,19 @@ use Rattle.encode.specs.Table.{Description, Table}
 unfoldable pub field : ℕ → List ℕ → List ℕ
 field tag v = tag ∷ length v / 256 % 256 ∷ length v % 256 ∷ v
 
--- 02 §4: "at edition 1 it refuses, 6, a tear byte other than 01's rule gives". Edition 1 has no tear byte: such an event is encoded with a kind
--- that is not listed, which the reader refuses 6 where it stands.
-unfoldable pub kindByte : Description → ℕ
-kindByte d = cond (eqb (d .tear) (tearOf (d .kind) (d .mode) (d .start) (d .width))) (d .kind) 0
+-- 02 §4: "at edition 1 it refuses, 6, a tear byte other than 01's rule gives". Where a sheet of the edition would say another tear byte than the
+-- description does (edition 1, which has none, says what the rule gives), the event is encoded with a kind that is not listed, which the reader refuses 6
+-- where it stands. Edition 2 says whatever byte the description has.
+unfoldable pub kindByte : ℕ → Description → ℕ
+kindByte edition d = cond (eqb (d .tear) (tearBy edition (d .kind) (d .mode) (d .start) (d .width) (d .tear))) (d .kind) 0
 
 -- 01's table of tags: "1 head: edition (1), agents (1 to 8), memory size in bytes (1 to 64)", "2 event: agent, kind, mode, start, width, then data",
--- "3 row: reader, address, writer", "4 pair: marker, marker"
+-- "3 row: reader, address, writer", "4 pair: marker, marker"; 02 §4: "Edition 2 adds a sixth byte to each event before the data"
 abbrev pub headValue : Head → List ℕ
 headValue h = h .edition ∷ h .agents ∷ h .size ∷ []
 
 abbrev pub eventValue : ℕ → Description → List ℕ
-eventValue edition d = d .agent ∷ kindByte d ∷ d .mode ∷ d .start ∷ d .width ∷ d .bytes
+eventValue edition d = take (eventBytes edition) (d .agent ∷ kindByte edition d ∷ d .mode ∷ d .start ∷ d .width ∷ d .tear ∷ []) ++ d .bytes
 
 abbrev pub rowValue : ℕ → Row → List ℕ
 rowValue edition r = r .reader ∷ r .address ∷ r .writer ∷ []

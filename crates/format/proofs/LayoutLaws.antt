@@ -1,4 +1,5 @@
 -- The laws of specs/Layout.antt: the bytes that an event's value holds; what the front of a value says. Assumes nothing.
+--     event-low, event-high                 five or six bytes stand before an event's data
 --     saw-uncovered, saw-none, saw-some     of a byte that the event does not cover, does not read, reads
 --     agent-front, shape-front, event-front, row-front, pair-front     of a value of which nothing is cut off that is looked at
 --     data-whole                            what was seen and then what was written are the data
@@ -16,10 +17,27 @@ use Rattle.basis.specs.Test.{_or_}
 use Rattle.basis.proofs.BoolLaws.{and-elim, true-T, T-true}
 use Rattle.basis.proofs.ListLaws.{part-front}
 use Rattle.format.specs.declared.Shape.{Shape}
-use Rattle.format.specs.Shape.{reads, covers}
+use Rattle.format.specs.Shape.{reads, covers, tearOf}
 use Rattle.format.specs.Event.{Event, saw, wrote}
-use Rattle.format.specs.Layout.{eventBytes, agentOf, shapeOf, dataBytes, seenOf, writtenOf, accessOf, eventOf, rowBytes, rowOf, pairBytes, pairOf}
+use Rattle.format.specs.Layout.{eventBytes, tearBy, agentOf, shapeOf, dataBytes, seenOf, writtenOf, accessOf, eventOf, rowBytes, rowOf, pairBytes, pairOf}
 use Rattle.format.proofs.EventLaws.{saw-hit, saw-miss, wrote-hit, wrote-miss}
+
+module _ (edition : ℕ) where
+  pub event-low : 5 ≤ eventBytes edition
+  unfolding eventBytes
+  event-low = go (eqb edition 2)
+    where
+      go : (b : Bool) → 5 ≤ cond b 6 5
+      go true = omega arith
+      go false = omega arith
+
+  pub event-high : eventBytes edition ≤ 6
+  unfolding eventBytes
+  event-high = go (eqb edition 2)
+    where
+      go : (b : Bool) → cond b 6 5 ≤ 6
+      go true = omega arith
+      go false = omega arith
 
 -- a covered byte lies behind the start and before the end
 pub covered : (a : Shape) (n : ℕ) → covers a n ≡ true → (a .start ≤ n) × (n < a .start + a .width)
@@ -79,9 +97,19 @@ module _ (edition : ℕ) (v : List ℕ) (n : ℕ) where
   pub agent-front : 1 ≤ n → agentOf (take n v) ≡ agentOf v
   agent-front h = getD-take n v 0 0 (omega arith)
 
+  -- the sixth byte counts where it stands before the data
+  tear-front : (k m s w : ℕ) → eventBytes edition ≤ n → tearBy edition k m s w (getD (take n v) 5 0) ≡ tearBy edition k m s w (getD v 5 0)
+  unfolding eventBytes tearBy
+  tear-front k m s w h = go (eqb edition 2) h
+    where
+      go : (b : Bool) → cond b 6 5 ≤ n → cond b (getD (take n v) 5 0) (tearOf k m s w) ≡ cond b (getD v 5 0) (tearOf k m s w)
+      go true l = getD-take n v 5 0 (omega arith)
+      go false l = refl
+
   pub shape-front : eventBytes edition ≤ n → shapeOf edition (take n v) ≡ shapeOf edition v
-  unfolding eventBytes
-  shape-front h = simp (getD-take n v 1 0 (omega arith), getD-take n v 2 0 (omega arith), getD-take n v 3 0 (omega arith), getD-take n v 4 0 (omega arith))
+  shape-front h =
+      let l = event-low edition in
+      simp (getD-take n v 1 0 (omega arith), getD-take n v 2 0 (omega arith), getD-take n v 3 0 (omega arith), getD-take n v 4 0 (omega arith), tear-front (getD v 1 0) (getD v 2 0) (getD v 3 0) (getD v 4 0) h)
 
   pub row-front : rowBytes edition ≤ n → rowOf edition (take n v) ≡ rowOf edition v
   unfolding rowBytes
@@ -130,8 +158,7 @@ module _ (edition : ℕ) (v : List ℕ) (n : ℕ) where
         go false e = rw e
 
     first : 1 ≤ n
-    unfolding eventBytes
-    first = omega arith
+    first = let l = event-low edition in omega arith
 
     pub event-front : eventOf edition (take n v) ≡ eventOf edition v
     event-front = event-path (agent-front first) same seen-front written-front

@@ -3,6 +3,7 @@
 --     headBytes, eventBytes, rowBytes, pairBytes     the bytes of a value; of an event's those before its data
 --     dataBytes                                      the bytes of its data
 --     rowGap, pairGap                                the bytes from one row's, one pair's tag to the next
+--     tearBy                                         where an event's tear byte comes from
 --     editionOf, headOf, agentOf, shapeOf, accessOf, eventOf, rowOf, pairOf     a value as what it describes
 -- Assumes nothing.
 use mathlib.Core.Bool.{cond}
@@ -18,7 +19,8 @@ use Rattle.format.specs.Shape.{reads, tearOf}
 use Rattle.format.specs.Event.{Access, Event}
 use Rattle.format.specs.Field.{fieldBytes}
 
--- 01: "1 head: edition (1), agents (1 to 8), memory size in bytes (1 to 64)". Its first byte is the edition, in every edition.
+-- 01: "1 head: edition (1), agents (1 to 8), memory size in bytes (1 to 64)". Its first byte is the edition, in every edition. A number that is no
+-- edition has edition 1's layout (it is refused 5).
 abbrev pub editionOf : List ℕ → ℕ
 editionOf v = getD v 0 0
 
@@ -28,9 +30,13 @@ headBytes edition = 3
 abbrev pub headOf : ℕ → List ℕ → Head
 headOf edition v = record { edition = editionOf v; agents = getD v 1 0; size = getD v 2 0 }
 
--- 01: "2 event: agent, kind, mode, start, width, then data"
+-- 01: "2 event: agent, kind, mode, start, width, then data"; 02 §4: "Edition 2 adds a sixth byte to each event before the data"
 unfoldable pub eventBytes : ℕ → ℕ
-eventBytes edition = 5
+eventBytes edition = cond (eqb edition 2) 6 5
+
+-- 02 §4: "0 may tear, 1 tear-free": the sixth byte of edition 2; edition 1, "for integer typed arrays only", has none, and 01's rule gives it
+unfoldable pub tearBy : ℕ → ℕ → ℕ → ℕ → ℕ → ℕ → ℕ
+tearBy edition kind mode start width sixth = cond (eqb edition 2) sixth (tearOf kind mode start width)
 
 abbrev pub agentOf : List ℕ → ℕ
 agentOf v = getD v 0 0
@@ -42,7 +48,7 @@ shapeOf edition v =
       mode = getD v 2 0;
       start = getD v 3 0;
       width = getD v 4 0;
-      tear = tearOf (getD v 1 0) (getD v 2 0) (getD v 3 0) (getD v 4 0);
+      tear = tearBy edition (getD v 1 0) (getD v 2 0) (getD v 3 0) (getD v 4 0) (getD v 5 0);
     }
 
 -- 01: "Data is width bytes for a read .. and a write; twice the width for kind 3 ..; none for a marker." (A marker's width is 0.)

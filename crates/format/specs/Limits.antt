@@ -1,10 +1,14 @@
 -- The limits of a sheet (01, "The sheet"), named once.
---     maxBytes      the longest sheet
+--     maxEdition    the last edition               maxBytes      the longest sheet
 --     maxAgents     the most agents                 maxMemory     the most bytes of memory
 --     maxInits      the most inits                  maxOthers     the most other events, markers included
 --     maxEvents     the most events of all          maxPairs      the most pairs
 -- Assumes nothing.
 use Prim.Native.Nat.{ℕ, _+_}
+
+-- 01: "edition (1)"; 02 §4: "Edition 2 adds a sixth byte to each event .. Edition 1 stays"
+abbrev pub maxEdition : ℕ
+maxEdition = 2
 
 -- 01: "At most 4,096 bytes."
 abbrev pub maxBytes : ℕ

@@ -4,7 +4,8 @@
 --     reads writes marks            by its kind                    initial unordered sc    by its mode
 --     tearFree                      by its tear                    covers a n              its range holds byte n
 --     overlap a b, equal a b        of two ranges                  bothSc a b              both sc with equal ranges
---     divides w s, tearOf           01's rule for tear-free        noShape                 what does nothing
+--     divides w s, unbroken w s     of a width and a start         tearOf                  01's rule for tear-free
+--     noShape                       what does nothing
 -- Assumes nothing.
 use mathlib.Core.Bool.{Bool, cond}
 use Prim.Native.Nat.{ℕ, _+_, _%_}
@@ -58,8 +59,11 @@ bothSc a b = sc a and sc b and equal a b
 unfoldable pub divides : ℕ → ℕ → Bool
 divides width start = eqb (start % width) 0
 
+-- 01, and 02 §4: "of width 1, 2 or 4 whose start is divisible by the width"
+unfoldable pub unbroken : ℕ → ℕ → Bool
+unbroken width start = (eqb width 1 or eqb width 2 or eqb width 4) and divides width start
+
 -- 01: "Tear-free: every sc event; an unordered event of width 1, 2 or 4 whose start is divisible by its width. Inits are not". A marker touches
 -- no byte; its tear is 0, as 02 §4 has it.
 unfoldable pub tearOf : ℕ → ℕ → ℕ → ℕ → ℕ
-tearOf kind mode start width =
-    cond (non (eqb kind 4) and (eqb mode 2 or (eqb mode 1 and (eqb width 1 or eqb width 2 or eqb width 4) and divides width start))) 1 0
+tearOf kind mode start width = cond (non (eqb kind 4) and (eqb mode 2 or (eqb mode 1 and unbroken width start))) 1 0

@@ -2,6 +2,8 @@
 pub mod field;
 
 // The limits of a sheet (specs/Limits.antt), named once for the code too.
+pub const MAX_EDITION: u8 = 2;
+
 pub const MAX_BYTES: usize = 4096;
 
 pub const MAX_AGENTS: u8 = 8;

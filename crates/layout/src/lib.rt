@@ -5,11 +5,10 @@ use format::Pair;
 use format::Row;
 use format::Shape;
 use format::field;
+use ranges::unbroken;
 ghost use mathlib.Core.Path.{_≡_};
-ghost use lib.Dec.{eqb};
-ghost use Rattle.basis.specs.Test.{_and_, _or_};
-ghost use Rattle.format.specs.Shape.{divides, tearOf};
-ghost use Rattle.format.specs.Layout.{headOf, shapeOf, rowOf, pairOf};
+ghost use Rattle.format.specs.Shape.{tearOf};
+ghost use Rattle.format.specs.Layout.{tearBy, headOf, shapeOf, rowOf, pairOf};
 
 pub fn head_of(edition: u8, v: &[u8]) -> Head
     ensures { λ r. ⌜ r ≡ headOf edition (now (v .entry)) ⌝ }
@@ -21,23 +20,22 @@ pub fn head_of(edition: u8, v: &[u8]) -> Head
     }
 }
 
-// A width of 1, 2 or 4 that divides the start.
-fn unbroken(start: u8, width: u8) -> bool
-    ensures { λ r. ⌜ r ≡ ((eqb width 1 or eqb width 2 or eqb width 4) and divides width start) ⌝ }
-{
-    match width {
-        1 => true,
-        2 => start % 2 == 0,
-        4 => start % 4 == 0,
-        _ => false,
-    }
-}
-
+// 01's rule for tear-free.
 fn tear_of(kind: u8, mode: u8, start: u8, width: u8) -> u8
     ensures { λ r. ⌜ r ≡ tearOf kind mode start width ⌝ }
 {
-    let free = (kind != 4) & ((mode == 2) | ((mode == 1) & unbroken(start, width)));
+    let free = (kind != 4) & ((mode == 2) | ((mode == 1) & unbroken(width, start)));
     if free { 1 } else { 0 }
+}
+
+// The tear byte: edition 2 says it, edition 1 has the rule.
+fn tear_by(edition: u8, kind: u8, mode: u8, start: u8, width: u8, sixth: u8) -> u8
+    ensures { λ r. ⌜ r ≡ tearBy edition kind mode start width sixth ⌝ }
+{
+    match edition {
+        2 => sixth,
+        _ => tear_of(kind, mode, start, width),
+    }
 }
 
 pub fn shape_of(edition: u8, v: &[u8]) -> Shape
@@ -47,12 +45,13 @@ pub fn shape_of(edition: u8, v: &[u8]) -> Shape
     let mode = field::byte(v, 2);
     let start = field::byte(v, 3);
     let width = field::byte(v, 4);
+    let sixth = field::byte(v, 5);
     Shape {
         kind: kind,
         mode: mode,
         start: start,
         width: width,
-        tear: tear_of(kind, mode, start, width),
+        tear: tear_by(edition, kind, mode, start, width, sixth),
     }
 }
 

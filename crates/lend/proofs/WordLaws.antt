@@ -16,7 +16,7 @@ use Rattle.parse.proofs.FramedLaws.{accepted-framed}
 use Rattle.encode.specs.Table.{Table, tableOf}
 use Rattle.encode.specs.Encode.{field, headValue, eventValue, rowValue, pairValue, run}
 use Rattle.encode.specs.Lend.{dataOf, flat, slicesOf}
-use Rattle.encode.proofs.EncodeLaws.{length-field, sheet-split}
+use Rattle.encode.proofs.EncodeLaws.{length-field, said-long, sheet-split}
 use Rattle.encode.proofs.WrittenBack.{written-back}
 use Rattle.lend.specs.declared.Lent.the-variants.{Table as Given}
 use Rattle.lend.specs.Word.{lentWord}
@@ -73,7 +73,7 @@ module _ (s : List ℕ) (x : Execution) (w : parse s ≡ whole x) where
       let l = accepted-framed s x w .0 in
       let q = parts-long in
       let h = length-field 1 (headValue (t .head)) in
-      let e = run-long 2 (eventValue (t .head .edition)) dataOf 0 (λ d. omega arith) (t .events) in
+      let e = run-long 2 (eventValue (t .head .edition)) dataOf 0 (λ d. (let m = said-long (t .head .edition) d in omega arith)) (t .events) in
       let r = run-long 3 (rowValue (t .head .edition)) nothing-of 3 (λ d. omega arith) (t .rows) in
       let z = none-flat (t .rows) in
       record { events = omega arith; bytes = omega arith; rows = omega arith; pairs = let k = p .pairs-few in omega arith }

@@ -3,6 +3,7 @@
 use content::within;
 use format::Head;
 use format::MAX_AGENTS;
+use format::MAX_EDITION;
 use format::MAX_INITS;
 use format::MAX_MEMORY;
 use format::MAX_OTHERS;
@@ -15,7 +16,8 @@ ghost use Rattle.content.specs.Content.{headFits, roomIn};
 pub fn head_fits(h: Head) -> bool
     ensures { λ r. ⌜ r ≡ headFits h ⌝ }
 {
-    (h.edition == 1) & (within(1, MAX_AGENTS, h.agents) & within(1, MAX_MEMORY, h.size))
+    within(1, MAX_EDITION, h.edition)
+        & (within(1, MAX_AGENTS, h.agents) & within(1, MAX_MEMORY, h.size))
 }
 
 // Is there room for an event of the agent behind so many inits and so many others?

@@ -8,18 +8,18 @@ use mathlib.Core.Bool.{Bool, true, false, cond}
 use mathlib.Core.List.{List, []}
 use Prim.Native.Nat.{ℕ, _+_, _≤_}
 use native.Mathlib.Omega.{arith}
-use borrow.Author.Tests.{eqb-true, eqb-false, leb-true}
+use borrow.Author.Tests.{eqb-true, eqb-false, ne-eqb, leb-true}
 use lib.Dec.{T, eqb}
 use lib.ListN.{length, take, drop, length-take, length-drop}
 use Rattle.basis.specs.Test.{_and_, _or_, non, any, all}
 use Rattle.basis.proofs.BoolLaws.{T-true, and-both, or-either, non-true}
 use Rattle.format.specs.declared.Head.{Head}
 use Rattle.format.specs.declared.Shape.{Shape}
-use Rattle.format.specs.Shape.{reads, writes, initial}
+use Rattle.format.specs.Shape.{reads, writes, initial, tearOf}
 use Rattle.format.specs.Event.{Event, isInit, meets}
-use Rattle.format.specs.Layout.{eventBytes, dataBytes, agentOf, shapeOf, seenOf, writtenOf, accessOf, eventOf}
-use Rattle.content.specs.Content.{inside, formed, alone, standsFirst, eventFits}
-use Rattle.content.proofs.ContentLaws.{SizedFacts, KindFacts, a-read, a-write, both, a-marker, InitFacts, OtherFacts, formed-cases}
+use Rattle.format.specs.Layout.{eventBytes, tearBy, dataBytes, agentOf, shapeOf, seenOf, writtenOf, accessOf, eventOf}
+use Rattle.content.specs.Content.{inside, formed, tearFits, alone, standsFirst, eventFits}
+use Rattle.content.proofs.ContentLaws.{SizedFacts, KindFacts, a-read, a-write, both, a-marker, InitFacts, OtherFacts, TearFacts, formed-cases, tear-facts}
 use Rattle.parse.specs.Parse.{eventFault}
 use Rattle.parse.specs.Promise.{WellEvent}
 use Rattle.parse.proofs.ParseLaws.{event-passed}
@@ -55,21 +55,37 @@ module _ (edition : ℕ) (v : List ℕ) (long : length v ≡ eventBytes edition 
 -- ---- an event
 
 module _ (h : Head) (events : List Event) (v : List ℕ) (e : eventFault h events v ≡ 0) where
-  fits : ((inside (h .size) (shapeOf (h .edition) v) ≡ true) × (formed (h .agents) (agentOf v) (shapeOf (h .edition) v) ≡ true)) × ((non (initial (shapeOf (h .edition) v)) or standsFirst events (shapeOf (h .edition) v)) ≡ true)
-  unfolding eventFits alone
-  fits =
-      let w = and-both (inside (h .size) (shapeOf (h .edition) v) and formed (h .agents) (agentOf v) (shapeOf (h .edition) v)) _ (event-passed h events v e .fits) in
-      (and-both (inside (h .size) (shapeOf (h .edition) v)) _ (w .0), w .1)
-
-  cases : InitFacts (agentOf v) (shapeOf (h .edition) v) ⊎ OtherFacts (h .agents) (agentOf v) (shapeOf (h .edition) v)
-  cases = formed-cases (h .agents) (agentOf v) (shapeOf (h .edition) v) (fits .0 .1)
-
-  within-memory : shapeOf (h .edition) v .start + shapeOf (h .edition) v .width ≤ h .size
-  unfolding inside
-  within-memory = leb-true _ _ (fits .0 .0)
-
   abbrev a : Shape
   a = shapeOf (h .edition) v
+
+  -- the tests of its content, apart
+  record Passed : Type 0 where
+    inside : inside (h .size) a ≡ true
+    formed : formed (h .agents) (agentOf v) a ≡ true
+    tear : tearFits a ≡ true
+    first : (non (initial a) or standsFirst events a) ≡ true
+
+  fits : Passed
+  unfolding eventFits alone
+  fits =
+      let w = and-both (inside (h .size) a and formed (h .agents) (agentOf v) a and tearFits a) _ (event-passed h events v e .fits) in
+      let u = and-both (inside (h .size) a) _ (w .0) in
+      let t = and-both (formed (h .agents) (agentOf v) a) _ (u .1) in
+      record { inside = u .0; formed = t .0; tear = t .1; first = w .1 }
+
+  cases : InitFacts (agentOf v) a ⊎ OtherFacts (h .agents) (agentOf v) a
+  cases = formed-cases (h .agents) (agentOf v) a (fits .formed)
+
+  within-memory : a .start + a .width ≤ h .size
+  unfolding inside
+  within-memory = leb-true _ _ (fits .inside)
+
+  tears : TearFacts a
+  tears = tear-facts a (fits .tear)
+
+  by-rule : (h .edition ≡ 2 → ⊥) → a .tear ≡ tearOf (a .kind) (a .mode) (a .start) (a .width)
+  unfolding tearBy
+  by-rule n = simp (ne-eqb (h .edition) 2 n)
 
   pub well-event : WellEvent h (eventOf (h .edition) v)
   well-event =
@@ -125,7 +141,10 @@ module _ (h : Head) (events : List Event) (v : List ℕ) (e : eventFault h event
             inside = within-memory;
             seen = s;
             written = w;
-            tear = refl;
+            tear = tears .byte;
+            tear-sc = tears .must;
+            tear-else = tears .none-else;
+            tear-rule = by-rule;
           }
       go (inr o) s w =
           let n = modes (o .mode) in let g = o .agent in
@@ -145,13 +164,16 @@ module _ (h : Head) (events : List Event) (v : List ℕ) (e : eventFault h event
             inside = within-memory;
             seen = s;
             written = w;
-            tear = refl;
+            tear = tears .byte;
+            tear-sc = tears .must;
+            tear-else = tears .none-else;
+            tear-rule = by-rule;
           }
 
   -- an init stands behind inits alone, and overlaps none
   pub stands-first : T (isInit (eventOf (h .edition) v)) → (all isInit events ≡ true) × (any (meets a) events ≡ false)
   unfolding isInit standsFirst initial
-  stands-first t = go cases (or-either (non (initial a)) (standsFirst events a) (fits .1))
+  stands-first t = go cases (or-either (non (initial a)) (standsFirst events a) (fits .first))
     where
       m : InitFacts (agentOf v) a ⊎ OtherFacts (h .agents) (agentOf v) a → a .mode ≡ 0
       m (inl i) = i .mode

@@ -33,7 +33,7 @@ use Rattle.format.specs.Event.{Access, Event, nobody, isInit, meets, readsSome}
 use Rattle.format.specs.Execution.{Execution, eventNo, event, inits, others, rowBelow, pairBelow, noRow, noPair}
 use Rattle.format.specs.Layout.{editionOf, headBytes, eventBytes, dataBytes, rowBytes, pairBytes, headOf, agentOf, shapeOf, accessOf, eventOf, rowOf, pairOf}
 use Rattle.content.specs.Content.{headFits, inside, formed, alone, standsFirst, eventFits, roomIn, roomFor, joins, rowRises, rowFits, parts, pairRises, pairFits}
-use Rattle.content.proofs.ContentLaws.{SizedFacts, KindFacts, a-read, a-write, both, a-marker, InitFacts, OtherFacts, formed-holds, head-holds}
+use Rattle.content.proofs.ContentLaws.{SizedFacts, KindFacts, a-read, a-write, both, a-marker, InitFacts, OtherFacts, TearFacts, formed-holds, tear-holds, head-holds}
 use Rattle.parse.specs.Parse.{whole, State, headFault, eventFault, eventFaultBy, rowFault, pairFault, lacks, lowestLacking, missing, completed, finish}
 use Rattle.parse.specs.Promise.{WellEvent, WellFormed, row}
 use Rattle.parse.proofs.LackLaws.{lacks-rowless}
@@ -136,6 +136,12 @@ module _ (h : Head) (d : Event) (w : WellEvent h d) where
   unfolding inside
   inside-holds = le-leb _ _ (w .inside)
 
+  alone-holds : alone h (d .agent) a ≡ true
+  unfolding alone
+  alone-holds =
+      both-hold _ _ inside-holds
+      (both-hold _ _ formed-so (tear-holds a (record { byte = w .tear; must = w .tear-sc; none-else = w .tear-else })))
+
 -- ---- the fields of a well-formed execution
 
 module _ (x : Execution) (w : WellFormed x) where
@@ -173,10 +179,8 @@ module _ (x : Execution) (w : WellFormed x) where
             (λ i b. entry-two before new f nobody (λ (c d : Event). T (isInit d) → (a : Access) → List·Memᴰ a (d .accesses) → T (meets (a .shape) c) → ⊥) (w .inits-apart) i b t
             (accessOf (x .head .edition) v) (List·Memᴰ·head refl)))))
 
-    inside-formed : (inside (x .head .size) (shapeOf (x .head .edition) v) and formed (x .head .agents) (agentOf v) (shapeOf (x .head .edition) v)) ≡ true
-    inside-formed =
-        subst (λ (a : Shape). (inside (x .head .size) a and formed (x .head .agents) (agentOf v) a) ≡ true) shape-same
-        (both-hold _ _ (inside-holds (x .head) new well) (formed-so (x .head) new well))
+    alone-here : alone (x .head) (agentOf v) (shapeOf (x .head .edition) v) ≡ true
+    alone-here = subst (λ (a : Shape). alone (x .head) (agentOf v) a ≡ true) shape-same (alone-holds (x .head) new well)
 
     room-holds : roomFor before (agentOf v) ≡ true
     unfolding roomIn inits others isInit
@@ -187,10 +191,10 @@ module _ (x : Execution) (w : WellFormed x) where
         go false p = rw p (count-holds before new f (λ (d : Event). non (isInit d)) maxOthers (w .others-few) (non-holds _ p))
 
     pub event-passes : length v ≡ eventBytes (x .head .edition) + dataBytes (shapeOf (x .head .edition) v) → eventFault (x .head) before v ≡ 0
-    unfolding eventFaultBy eventFits alone
+    unfolding eventFaultBy eventFits
     event-passes l =
         passed _ _ _ (le-ltb (length v) (eventBytes (x .head .edition)) (omega arith))
-        (passed-non _ _ _ (both-hold _ _ inside-formed stands)
+        (passed-non _ _ _ (both-hold _ _ alone-here stands)
         (passed-non _ _ _ (eq-eqb _ _ l)
         (passed-non _ _ _ room-holds refl)))
 

@@ -1,4 +1,4 @@
--- What the reader promises of an execution: all that 01, "The sheet", and 02 §1 say of a well-formed one. The judge and its theorems use only this.
+-- What the reader promises of an execution: all that 01, "The sheet", and 02 §1 and §4 say of a well-formed one. The judge and its theorems use only this.
 -- Proved of `parse` in proofs/PromiseLaws.antt (`promise`); laws for those who cite it, over membership in the lists: crates/model/proofs/Sound.antt.
 --     WellEvent h d                 event d by itself, under the head h
 --     OneRow x e n                  exactly one row for byte n of event e
@@ -15,8 +15,8 @@ use lib.ListN.{length, getD}
 use Rattle.format.specs.declared.Head.{Head}
 use Rattle.format.specs.declared.Row.{Row}
 use Rattle.format.specs.declared.Pair.{Pair}
-use Rattle.format.specs.Limits.{maxAgents, maxMemory, maxInits, maxOthers, maxPairs}
-use Rattle.format.specs.Shape.{reads, writes, divides, tearOf}
+use Rattle.format.specs.Limits.{maxEdition, maxAgents, maxMemory, maxInits, maxOthers, maxPairs}
+use Rattle.format.specs.Shape.{reads, writes, divides, unbroken, tearOf}
 use Rattle.format.specs.Event.{Access, Event, isInit, meets, readsAt, writesAt, readsSome, isMarker}
 use Rattle.format.specs.Execution.{Execution, event, inits, others, rowBelow, pairBelow, noRow, noPair}
 
@@ -46,8 +46,14 @@ pub record WellEvent (h : Head) (d : Event) : Type 0 where
   -- "Data is width bytes for a read (what was seen) and a write; twice the width for kind 3 (seen, then written); none for a marker."
   pub seen : length (access .seen) ≡ cond (reads (access .shape)) (access .shape .width) 0
   pub written : length (access .written) ≡ cond (writes (access .shape)) (access .shape .width) 0
-  -- "Tear-free: .."
-  pub tear : access .shape .tear ≡ tearOf (access .shape .kind) (access .shape .mode) (access .shape .start) (access .shape .width)
+  -- 02 §4: "0 may tear, 1 tear-free. It must be 1 for sc reads, writes and read-modify-writes, free for unordered ones of width 1, 2 or 4 whose start is
+  -- divisible by the width, 0 for all else"
+  pub tear : access .shape .tear ≤ 1
+  pub tear-sc : access .shape .mode ≡ 2 → (access .shape .kind ≡ 4 → ⊥) → access .shape .tear ≡ 1
+  pub tear-else : (access .shape .mode ≡ 2 → access .shape .kind ≡ 4) → (access .shape .mode ≡ 1 → T (unbroken (access .shape .width) (access .shape .start)) → ⊥)
+      → access .shape .tear ≡ 0
+  -- "Edition 1 stays": 01, "Tear-free: .."
+  pub tear-rule : (h .edition ≡ 2 → ⊥) → access .shape .tear ≡ tearOf (access .shape .kind) (access .shape .mode) (access .shape .start) (access .shape .width)
 
 -- row number j and pair number j
 abbrev pub row : Execution → ℕ → Row
@@ -73,8 +79,8 @@ abbrev pub EachAppears : Execution → Type 0
 EachAppears x = (a : ℕ) → 1 ≤ a → a ≤ x .head .agents → HasEvent x a
 
 pub record WellFormed (x : Execution) : Type 0 where
-  -- "edition (1), agents (1 to 8), memory size in bytes (1 to 64)"
-  pub edition : x .head .edition ≡ 1
+  -- "edition (1), agents (1 to 8), memory size in bytes (1 to 64)"; 02 §4 adds edition 2
+  pub edition : (1 ≤ x .head .edition) × (x .head .edition ≤ maxEdition)
   pub agents : (1 ≤ x .head .agents) × (x .head .agents ≤ maxAgents)
   pub size : (1 ≤ x .head .size) × (x .head .size ≤ maxMemory)
   pub events : (e : ℕ) → e < length (x .events) → WellEvent (x .head) (event x e)

@@ -2,7 +2,7 @@
 use access::sc;
 use format::Shape;
 ghost use mathlib.Core.Path.{_≡_};
-ghost use Rattle.format.specs.Shape.{covers, overlap, equal, bothSc};
+ghost use Rattle.format.specs.Shape.{covers, overlap, equal, bothSc, unbroken};
 
 pub fn covers(a: Shape, n: u8) -> bool
     ensures { λ r. ⌜ r ≡ covers a n ⌝ }
@@ -24,6 +24,18 @@ pub fn equal(a: Shape, b: Shape) -> bool
     ensures { λ r. ⌜ r ≡ equal a b ⌝ }
 {
     (a.start == b.start) & (a.width == b.width)
+}
+
+// A width of 1, 2 or 4 that divides the start.
+pub fn unbroken(width: u8, start: u8) -> bool
+    ensures { λ r. ⌜ r ≡ unbroken width start ⌝ }
+{
+    match width {
+        1 => true,
+        2 => start % 2 == 0,
+        4 => start % 4 == 0,
+        _ => false,
+    }
 }
 
 // Both sc with equal ranges.

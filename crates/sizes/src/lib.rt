@@ -3,10 +3,12 @@ use format::Shape;
 ghost use mathlib.Core.Path.{_≡_};
 ghost use Rattle.format.specs.Layout.{headBytes, eventBytes, dataBytes, rowBytes};
 
-// The bytes of a value, edition 1: a head, an event before its data, a row.
+// The bytes of a value: a head; an event before its data, without and with its tear byte (edition 2); a row.
 const HEAD: u8 = 3;
 
 const EVENT: u8 = 5;
+
+const EVENT_2: u8 = 6;
 
 const ROW: u8 = 3;
 
@@ -24,7 +26,10 @@ pub fn head_bytes(edition: u8) -> u8
 pub fn event_bytes(edition: u8) -> u8
     ensures { λ r. ⌜ r ≡ eventBytes edition ⌝ }
 {
-    EVENT
+    match edition {
+        2 => EVENT_2,
+        _ => EVENT,
+    }
 }
 
 // The bytes of a row's value.

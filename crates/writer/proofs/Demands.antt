@@ -139,7 +139,7 @@ room-enough t entry i exit h w = go (refuses t entry 15 i exit w .0) refl
     go (no-room x e r) q = let l = accepted-well (encode t) x e .short in omega arith
 
 pub tears : TearRefused
-tears h events d e n = tear-refused h events d n
+tears h events d e n = tear-refused h events d e n
 
 -- ---- the word
 

@@ -11,9 +11,12 @@ inside-requires c κs = search needs
 formed-requires : tie.Need-formed-requires
 formed-requires c κs = search needs
 
+tear-fits-requires : tie.Need-tear-fits-requires
+tear-fits-requires c κs = search needs
+
 returns : tie.Need-returns
 unfolding alone _and_
-returns c = simp (c .before .inside .ensures, c .formed .ensures)
+returns c = simp (c .before .before .inside .ensures, c .before .formed .ensures, c .tear-fits .ensures)
 
 pub alone-spec : {M : Type 1} → statement M
-alone-spec = tie.close (tie.spec inside-requires formed-requires returns)
+alone-spec = tie.close (tie.spec inside-requires formed-requires tear-fits-requires returns)

@@ -15,11 +15,14 @@ byte-requires-3 c κs = search needs
 byte-requires-4 : tie.Need-byte-requires-4
 byte-requires-4 c κs = search needs
 
-tear-of-requires : tie.Need-tear-of-requires
-tear-of-requires c κs = search needs
+byte-requires-5 : tie.Need-byte-requires-5
+byte-requires-5 c κs = search needs
+
+tear-by-requires : tie.Need-tear-by-requires
+tear-by-requires c κs = search needs
 
 returns : tie.Need-returns
-returns c = simp (c .tear-of .ensures, c .before .before .before .before .byte .ensures, c .before .before .before .byte2 .ensures, c .before .before .byte3 .ensures, c .before .byte4 .ensures)
+returns c = simp (c .tear-by .ensures, c .before .before .before .before .before .byte .ensures, c .before .before .before .before .byte2 .ensures, c .before .before .before .byte3 .ensures, c .before .before .byte4 .ensures, c .before .byte5 .ensures)
 
 pub shape-of-spec : {M : Type 1} → statement M
 shape-of-spec =
@@ -29,5 +32,6 @@ shape-of-spec =
     byte-requires-2
     byte-requires-3
     byte-requires-4
-    tear-of-requires
+    byte-requires-5
+    tear-by-requires
     returns)

@@ -11,9 +11,12 @@ within-requires c κs = search needs
 within-requires-2 : tie.Need-within-requires-2
 within-requires-2 c κs = search needs
 
+within-requires-3 : tie.Need-within-requires-3
+within-requires-3 c κs = search needs
+
 returns : tie.Need-returns
 unfolding headFits _and_
-returns c = simp (c .before .within .ensures, c .within2 .ensures)
+returns c = simp (c .before .before .within .ensures, c .before .within2 .ensures, c .within3 .ensures)
 
 pub head-fits-spec : {M : Type 1} → statement M
-head-fits-spec = tie.close (tie.spec within-requires within-requires-2 returns)
+head-fits-spec = tie.close (tie.spec within-requires within-requires-2 within-requires-3 returns)

@@ -9,3 +9,4 @@ pub mod WellEventLaws
 pub mod WellWritten
 pub mod ShortLaws
 pub mod CopyLaws
+pub mod AlikeLaws

@@ -1,7 +1,9 @@
 -- Reading what was written gives the table back (02 §2), and what is written is refused only for what an entry of the table says. Both by one walk over the
 -- fields: `Good` says what is to be shown of either answer, and the walk over a list of entries is handed what comes after it.
 --     tag-here, value-here, next-here, fault-here, ..     the field at a seam of a sheet
+--     head-number, event-number, row-number, pair-number     the numbers of faults
 --     turn, walk                                          one field, a list of fields
+--     upTo, more-events                                   the places of the first n events, of one more
 --     read-back : parse (encode t) ≡ whole x → tableOf x ≡ t
 --     refused-stands : parse (encode t) ≡ refused n p → Stands t n p, which is Names t n p i for some i
 -- Assumes nothing.
@@ -115,7 +117,7 @@ no-fuel t s p st = λ h. absurd (omega arith)
 
 -- ---- the numbers of faults
 
-head-number : (x : Execution) (h : Head) (n : ℕ) → valueFault x 1 (headValue h) ≡ suc n → suc n ≡ 5
+pub head-number : (x : Execution) (h : Head) (n : ℕ) → valueFault x 1 (headValue h) ≡ suc n → suc n ≡ 5
 unfolding valueFaultBy headFault headBytes non
 head-number x h n = go (headFits h)
   where
@@ -123,7 +125,7 @@ head-number x h n = go (headFits h)
     go true e = absurd (omega arith)
     go false e = sym e
 
-event-number : (x : Execution) (v : List ℕ) (n : ℕ) → valueFault x 2 v ≡ suc n → OfEvent (suc n)
+pub event-number : (x : Execution) (v : List ℕ) (n : ℕ) → valueFault x 2 v ≡ suc n → OfEvent (suc n)
 unfolding valueFaultBy eventFaultBy
 event-number x v n =
     go (ltb (length v) (eventBytes (x .head .edition))) (non (eventFits (x .head) (x .events) (agentOf v) (shapeOf (x .head .edition) v)))
@@ -136,7 +138,7 @@ event-number x v n =
     go false false false true e = inr (inr (inl (sym e)))
     go false false false false e = absurd (omega arith)
 
-row-number : (edition : ℕ) (x : Execution) (r : Row) (n : ℕ) → valueFault x 3 (rowValue edition r) ≡ suc n → suc n ≡ 7
+pub row-number : (edition : ℕ) (x : Execution) (r : Row) (n : ℕ) → valueFault x 3 (rowValue edition r) ≡ suc n → suc n ≡ 7
 unfolding valueFaultBy rowFault rowBytes non
 row-number edition x r n = go (rowFits (x .events) (x .rows) r)
   where
@@ -144,7 +146,7 @@ row-number edition x r n = go (rowFits (x .events) (x .rows) r)
     go true e = absurd (omega arith)
     go false e = sym e
 
-pair-number : (x : Execution) (p : Pair) (n : ℕ) → valueFault x 4 (pairValue p) ≡ suc n → OfPair (suc n)
+pub pair-number : (x : Execution) (p : Pair) (n : ℕ) → valueFault x 4 (pairValue p) ≡ suc n → OfPair (suc n)
 unfolding valueFaultBy pairFault non
 pair-number x p n = go (pairFits (x .events) (x .pairs) p) (ltb (length (x .pairs)) maxPairs)
   where
@@ -185,10 +187,10 @@ record Read (t : Table) (part : Table) (places : List ℕ) (st : State) : Type 0
   got : tableOf (st .got) ≡ part
   at : st .places ≡ places
 
-front-of : {A : Type 0} (done todo every : List A) → done ++ todo ≡ every → take (length done) every ≡ done
+pub front-of : {A : Type 0} (done todo every : List A) → done ++ todo ≡ every → take (length done) every ≡ done
 front-of done todo every e = subst (λ (l : List _). take (length done) l ≡ done) e (take-append-seam done todo)
 
-count-of : {A : Type 0} (done : List A) (a : A) (todo every : List A) → done ++ (a ∷ todo) ≡ every → length done < length every
+pub count-of : {A : Type 0} (done : List A) (a : A) (todo every : List A) → done ++ (a ∷ todo) ≡ every → length done < length every
 count-of done a todo every e = let l = length-append done (a ∷ todo) in let m = ap length e in omega arith
 
 module _ {A : Type 0} (t : Table) (s base rest : List ℕ) (len : length s ≤ maxBytes) (tag : ℕ) (value : A → List ℕ) (every : List A) (part : List A → Table) (places : List A → List ℕ)
@@ -261,10 +263,10 @@ step-pair h events rows x done p e f = ap (λ (u : Table). table (u .head) (u .e
 
 -- ---- the places of the events
 
-abbrev upTo : Table → ℕ → List ℕ
+abbrev pub upTo : Table → ℕ → List ℕ
 upTo t n = each (eventPlace t) (from 0 n)
 
-more-events : (t : Table) (done : List Description) (d : Description) (l : List ℕ) → take (length done) (t .events) ≡ done → l ≡ upTo t (length done)
+pub more-events : (t : Table) (done : List Description) (d : Description) (l : List ℕ) → take (length done) (t .events) ≡ done → l ≡ upTo t (length done)
     → l ++ (length (beforeEvents t ++ run 2 (eventValue (t .head .edition)) done) ∷ []) ≡ upTo t (length (done ++ (d ∷ [])))
 unfolding eventPlace
 more-events t done d l f e =

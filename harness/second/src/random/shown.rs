@@ -16,7 +16,7 @@ pub const SHOWN: &[&str] = &[
     "6 by a tear byte over 1",
     "6 by a tear byte, of an sc event",
     "6 by a tear byte, of width 8",
-    "6 by a tear byte, at such a start",
+    "6 by a tear byte, start not divisible",
     "6 by a tear byte, of an init",
     "6 by a tear byte, of a marker",
     "6 by a tear byte, before 4",
@@ -73,7 +73,7 @@ fn by_tear_byte(sheet: &[u8], place: usize) -> Vec<&'static str> {
         (_, 0, _) => "6 by a tear byte, of an init",
         (_, SC, _) => "6 by a tear byte, of an sc event",
         (_, _, 8) => "6 by a tear byte, of width 8",
-        _ if tear == 1 => "6 by a tear byte, at such a start",
+        _ if tear == 1 => "6 by a tear byte, start not divisible",
         _ => all[0],
     });
     match then {

@@ -131,6 +131,8 @@ pub const SHOWN_WRITTEN: &[&str] = &[
     "edition 2 written",
     "edition 2 written, may tear where 01's rule says 1",
     "1 by edition 2's sixth bytes",
+    "1 for a number that is no edition",
+    "5 for a number that is no edition, 1 at edition 2",
     "15 by edition 2's sixth bytes",
     "5 for edition 0",
     "5 for edition 3",
@@ -161,8 +163,21 @@ pub fn shown_written(table: &[Vec<u8>; 5], out: usize, answer: &Written) -> Vec<
             true => vec!["edition 2 written"],
             false => vec!["edition 2 written", "edition 2 written, may tear where 01's rule says 1"],
         },
-        Written::Refused { number: 5, .. } if edition == 0 => vec!["5 for edition 0"],
-        Written::Refused { number: 5, .. } if edition == 3 => vec!["5 for edition 3"],
+        Written::Refused { number: 1, .. } if !matches!(edition, 1 | 2) => vec!["1 for a number that is no edition"],
+        Written::Refused { number: 5, .. } if !matches!(edition, 1 | 2) => {
+            let mut all = match edition {
+                0 => vec!["5 for edition 0"],
+                3 => vec!["5 for edition 3"],
+                _ => vec![],
+            };
+            let mut at_2 = table.clone();
+            at_2[0].resize(3, 0);
+            at_2[0][0] = 2;
+            if again(&at_2, out) == (Written::Refused { number: 1, index: 0 }) {
+                all.push("5 for a number that is no edition, 1 at edition 2");
+            }
+            all
+        }
         Written::Refused { number: number @ (1 | 15), .. } if edition == 2 => {
             match (number, again(&as_edition_1, out)) {
                 (_, Written::Refused { number: other, .. }) if other == number => vec![],

@@ -271,8 +271,12 @@ fn counts(rng: &mut Rng, d: &mut Draft) -> &'static str {
     }
 }
 
-/// Sheets about as long as one may be: by data, by rows, by pairs, by events.
+/// Sheets about as long as one may be: by data, by rows, by pairs, by events. A number that is no edition has edition 1's
+/// layout.
 fn sizes(rng: &mut Rng, d: &mut Draft) -> &'static str {
+    if rng.percent(30) {
+        d.head[0] = rng.pick(&[0, 3, 255]);
+    }
     let most = MAX_SHEET + rng.pick(&[0, 0, 1, 1, 2, 300]);
     match rng.below(6) {
         0 | 1 => {

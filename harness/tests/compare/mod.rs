@@ -45,7 +45,7 @@ impl Tally {
     pub fn missing(&self) -> Vec<String> {
         let all = self.all();
         let of = |e: usize| {
-            all.iter().filter(move |(_, times)| times[e - 1] == 0).map(move |(n, _)| format!("{n}, edition {e}"))
+            all.iter().filter(move |(_, times)| times[e - 1] == 0).map(move |(n, _)| format!("{n} at edition {e}"))
         };
         let unshown = SHOWN.iter().filter(|what| !self.shown.contains_key(**what)).map(|what| what.to_string());
         of(1).chain(of(2)).chain(unshown).collect()

@@ -1,8 +1,10 @@
 //! bench: the linked judge and two ordinary Rust judges over the same whole sheets, buffers reused, in one run: one test
 //! by test (`ordinary::same`), one with more tables of masks (`ordinary`). A line for each number of events that are not
-//! inits and each answer: nanoseconds a sheet, and the linked judge's time by the other's.
+//! inits and each answer: nanoseconds a sheet, and the linked judge's time by the other's. The sheets are of edition 1; with
+//! `--edition 2` the same ones at edition 2, each tear byte as 01's rule gives it.
 
 use second::random::{sized, Rng};
+use second::text::{from_text, to_text};
 use std::hint::black_box;
 use std::time::Instant;
 
@@ -21,7 +23,8 @@ fn machine() -> String {
 }
 
 /// Sheets of a size whose answer has this kind (and, for broken ones, is by rule 26).
-fn sheets(n: usize, kind: u64) -> Vec<Vec<u8>> {
+fn sheets(n: usize, kind: u64, edition: &str) -> Vec<Vec<u8>> {
+    let head = format!("head {edition}");
     let mut rng = Rng::new(1000 + n as u64);
     let mut all = vec![];
     let (mut scratch, mut order) = (vec![0; plimdrong::MAX_SCRATCH], vec![0; plimdrong::MAX_EVENTS]);
@@ -29,7 +32,7 @@ fn sheets(n: usize, kind: u64) -> Vec<Vec<u8>> {
         let sheet = sized(&mut rng, n);
         let word = ordinary::judge(&sheet, &mut scratch, &mut order);
         if word >> 40 & 255 == kind && (kind == 3 || word >> 32 & 255 == 26) {
-            all.push(sheet);
+            all.push(from_text(&to_text(&sheet).replacen("head 1", &head, 1)).expect("it is a sheet's text"));
         }
         if all.len() == SHEETS {
             break;
@@ -50,14 +53,23 @@ fn pass(judge: Judge, sheets: &[Vec<u8>], times: usize, scratch: &mut [u8], orde
 }
 
 fn main() {
+    let args: Vec<String> = std::env::args().skip(1).collect();
+    let edition = match args.iter().map(|a| a.as_str()).collect::<Vec<_>>()[..] {
+        [] => "1",
+        ["--edition", edition @ ("1" | "2")] => edition,
+        _ => {
+            eprintln!("usage: bench [--edition 1|2]");
+            std::process::exit(2);
+        }
+    };
     let (mut scratch, mut order) = (vec![0; plimdrong::MAX_SCRATCH], vec![0; plimdrong::MAX_EVENTS]);
-    println!("{}; release build; lowest of {ROUNDS} rounds, the three judges in turn", machine());
+    println!("{}; release build; edition {edition}; lowest of {ROUNDS} rounds, the three judges in turn", machine());
     println!("| events | answer | plimdrong, ns | test by test, ns | ratio | more masks, ns | ratio |");
     println!("|---|---|---|---|---|---|---|");
     let judges: [Judge; 3] = [plimdrong::judge_with, ordinary::same::judge, ordinary::judge];
     for n in SIZES {
         for (kind, name) in [(3, "consistent"), (2, "broken 26")] {
-            let sheets = sheets(n, kind);
+            let sheets = sheets(n, kind, edition);
             for sheet in &sheets {
                 let told = judges.map(|judge| {
                     let mut order = vec![0; plimdrong::MAX_EVENTS];

@@ -15,6 +15,16 @@
 //!
 //! An event's number may be left out. `#` begins a comment. Every sheet has such a text, damaged ones too, and
 //! [`from_text`] gives back the very bytes.
+//!
+//! The events behind a line `head 2 ..` have edition 2's layout, all others edition 1's. At edition 2 an event's tear
+//! byte is what 01's rule gives, or 0 where the word `may-tear` stands behind the mode:
+//!
+//! ```text
+//! head 2 1 2
+//! 0 A1 write unordered may-tear at 0: 01 02
+//! ```
+//!
+//! Edition 1 has no such byte and the word is an error there. An event with another tear byte is a line `bytes`.
 
 /// The bytes as two hexadecimal digits each, single spaces between; `-` for none.
 pub fn hex(bytes: &[u8]) -> String {
@@ -43,6 +53,7 @@ pub fn to_text(sheet: &[u8]) -> String {
     let mut out = String::new();
     let mut at = 0;
     let mut events = 0;
+    let mut edition = 1;
     while at < sheet.len() {
         let rest = &sheet[at..];
         let end = match rest {
@@ -56,8 +67,11 @@ pub fn to_text(sheet: &[u8]) -> String {
         }
         let value = &rest[3..end];
         let line = match rest[0] {
-            1 if value.len() == 3 => Some(format!("head {} {} {}", value[0], value[1], value[2])),
-            2 => event_line(value).map(|line| format!("{events} {line}")),
+            1 if value.len() == 3 => {
+                edition = value[0];
+                Some(format!("head {} {} {}", value[0], value[1], value[2]))
+            }
+            2 => event_line(edition, value).map(|line| format!("{events} {line}")),
             3 if value.len() == 3 => Some(format!("row {} {} {}", value[0], value[1], value[2])),
             4 if value.len() == 2 => Some(format!("pair {} {}", value[0], value[1])),
             _ => None,
@@ -73,44 +87,65 @@ pub fn to_text(sheet: &[u8]) -> String {
 const KINDS: [&str; 5] = ["", "read", "write", "rmw", "marker"];
 const MODES: [&str; 3] = ["init", "unordered", "sc"];
 
+const MAY_TEAR: &str = "may-tear";
+
+/// The tear byte by 01's rule: "every sc event; an unordered event of width 1, 2 or 4 whose start is divisible by its
+/// width. Inits are not"; 0 for a marker.
+fn tear_by_rule(kind: u8, mode: u8, start: u8, width: u8) -> u8 {
+    let whole = matches!(width, 1 | 2 | 4) && start.is_multiple_of(width);
+    u8::from(kind != 4 && (mode == 2 || (mode == 1 && whole)))
+}
+
 /// An event whose text says all of it, else nothing.
-fn event_line(value: &[u8]) -> Option<String> {
-    let [agent, kind, mode, start, width, data @ ..] = value else {
+fn event_line(edition: u8, value: &[u8]) -> Option<String> {
+    let [agent, kind, mode, start, width, rest @ ..] = value else {
         return None;
     };
+    let by_rule = tear_by_rule(*kind, *mode, *start, *width);
+    let (tear, data) = match (edition, rest) {
+        (2, [tear, data @ ..]) => (*tear, data),
+        (2, []) => return None,
+        _ => (by_rule, rest),
+    };
     let width = *width as usize;
+    let how = match (*mode as usize, tear == by_rule) {
+        (m @ 0..=2, true) => MODES[m].to_string(),
+        (m @ 0..=2, false) if tear == 0 => format!("{} {MAY_TEAR}", MODES[m]),
+        _ => return None,
+    };
     match (agent, kind, mode) {
         (0, 2, 0) if width > 0 && data.len() == width => Some(format!("init at {start}: {}", hex(data))),
-        (_, 1 | 2, 0..=2) if width > 0 && data.len() == width => {
-            Some(format!("A{agent} {} {} at {start}: {}", KINDS[*kind as usize], MODES[*mode as usize], hex(data)))
+        (_, 1 | 2, _) if width > 0 && data.len() == width => {
+            Some(format!("A{agent} {} {how} at {start}: {}", KINDS[*kind as usize], hex(data)))
         }
-        (_, 3, 0..=2) if width > 0 && data.len() == 2 * width => {
+        (_, 3, _) if width > 0 && data.len() == 2 * width => {
             let (seen, written) = (hex(&data[..width]), hex(&data[width..]));
-            Some(format!("A{agent} rmw {} at {start}: {seen} -> {written}", MODES[*mode as usize]))
+            Some(format!("A{agent} rmw {how} at {start}: {seen} -> {written}"))
         }
-        (_, 4, 2) if *start == 0 && value.len() == 5 && width == 0 => Some(format!("A{agent} marker")),
+        (_, 4, 2) if *start == 0 && data.is_empty() && width == 0 => Some(format!("A{agent} marker")),
         _ => None,
     }
 }
 
 /// The bytes of a text.
 pub fn from_text(text: &str) -> Result<Vec<u8>, String> {
-    let mut sheet = vec![];
-    let mut events = 0;
+    let mut read = Lines { sheet: vec![], events: 0, edition: 1 };
     for (i, whole) in text.lines().enumerate() {
         let line = whole.split('#').next().unwrap().trim();
         if line.is_empty() {
             continue;
         }
-        field(line, &mut events, &mut sheet).map_err(|why| format!("line {}: {why}: {whole}", i + 1))?;
+        read.line(line).map_err(|why| format!("line {}: {why}: {whole}", i + 1))?;
     }
-    Ok(sheet)
+    Ok(read.sheet)
 }
 
-fn put(sheet: &mut Vec<u8>, tag: u8, value: &[u8]) {
-    sheet.push(tag);
-    sheet.extend((value.len() as u16).to_be_bytes());
-    sheet.extend(value);
+/// What the lines so far have given.
+struct Lines {
+    sheet: Vec<u8>,
+    events: usize,
+    /// The last head's; 1 before any.
+    edition: u8,
 }
 
 fn number(word: &str) -> Result<u8, String> {
@@ -121,45 +156,64 @@ fn numbers(words: &str) -> Result<Vec<u8>, String> {
     words.split_whitespace().map(number).collect()
 }
 
-fn field(line: &str, events: &mut usize, sheet: &mut Vec<u8>) -> Result<(), String> {
-    let (word, rest) = line.split_once(' ').unwrap_or((line, ""));
-    match word {
-        "head" => put(sheet, 1, &numbers(rest)?),
-        "row" => put(sheet, 3, &numbers(rest)?),
-        "pair" => put(sheet, 4, &numbers(rest)?),
-        "bytes" => {
-            let bytes = from_hex(rest)?;
-            *events += usize::from(bytes.first() == Some(&2));
-            sheet.extend(bytes);
-        }
-        _ => {
-            // an event, with or without its number
-            let line = match word.parse::<usize>() {
-                Ok(number) if number != *events => return Err(format!("this is event {events}")),
-                Ok(_) => rest,
-                Err(_) => line,
-            };
-            put(sheet, 2, &event(line)?);
-            *events += 1;
-        }
+impl Lines {
+    fn put(&mut self, tag: u8, value: &[u8]) {
+        self.sheet.push(tag);
+        self.sheet.extend((value.len() as u16).to_be_bytes());
+        self.sheet.extend(value);
     }
-    Ok(())
+
+    fn line(&mut self, line: &str) -> Result<(), String> {
+        let (word, rest) = line.split_once(' ').unwrap_or((line, ""));
+        match word {
+            "head" => {
+                let value = numbers(rest)?;
+                if let [edition, _, _] = value[..] {
+                    self.edition = edition;
+                }
+                self.put(1, &value);
+            }
+            "row" => self.put(3, &numbers(rest)?),
+            "pair" => self.put(4, &numbers(rest)?),
+            "bytes" => {
+                let bytes = from_hex(rest)?;
+                self.events += usize::from(bytes.first() == Some(&2));
+                self.sheet.extend(bytes);
+            }
+            _ => {
+                // an event, with or without its number
+                let line = match word.parse::<usize>() {
+                    Ok(number) if number != self.events => return Err(format!("this is event {}", self.events)),
+                    Ok(_) => rest,
+                    Err(_) => line,
+                };
+                self.put(2, &event(self.edition, line)?);
+                self.events += 1;
+            }
+        }
+        Ok(())
+    }
 }
 
-fn event(line: &str) -> Result<Vec<u8>, String> {
+fn event(edition: u8, line: &str) -> Result<Vec<u8>, String> {
     let (what, data) = line.split_once(':').unwrap_or((line, ""));
     let words: Vec<&str> = what.split_whitespace().collect();
     let agent = |word: &str| number(word.strip_prefix('A').ok_or("an agent is A and a number")?);
     let at = |names: &[&str], word: &str| names.iter().position(|n| *n == word).map(|i| i as u8);
-    let (agent, kind, mode, start) = match words[..] {
-        ["init", "at", start] => (0, 2, 0, number(start)?),
-        [a, "marker"] => (agent(a)?, 4, 2, 0),
-        [a, kind, mode, "at", start] => {
-            let kind = at(&KINDS, kind).ok_or("no such kind")?;
-            (agent(a)?, kind, at(&MODES, mode).ok_or("no such mode")?, number(start)?)
-        }
+    let access = |a, kind, mode, start| {
+        let kind = at(&KINDS, kind).ok_or("no such kind")?;
+        Ok::<_, String>((agent(a)?, kind, at(&MODES, mode).ok_or("no such mode")?, number(start)?))
+    };
+    let ((agent, kind, mode, start), may_tear) = match words[..] {
+        ["init", "at", start] => ((0, 2, 0, number(start)?), false),
+        [a, "marker"] => ((agent(a)?, 4, 2, 0), false),
+        [a, kind, mode, "at", start] => (access(a, kind, mode, start)?, false),
+        [a, kind, mode, MAY_TEAR, "at", start] => (access(a, kind, mode, start)?, true),
         _ => return Err("no such line".to_string()),
     };
+    if may_tear && edition != 2 {
+        return Err(format!("{MAY_TEAR} needs a head of edition 2"));
+    }
     let mut bytes = vec![];
     let mut width = 0;
     if kind != 4 {
@@ -172,7 +226,11 @@ fn event(line: &str) -> Result<Vec<u8>, String> {
             return Err("data of the wrong length".to_string());
         }
     }
-    let mut value = vec![agent, kind, mode, start, width as u8];
+    let width = width as u8;
+    let mut value = vec![agent, kind, mode, start, width];
+    if edition == 2 {
+        value.push(if may_tear { 0 } else { tear_by_rule(kind, mode, start, width) });
+    }
     value.extend(bytes);
     Ok(value)
 }

@@ -3,7 +3,7 @@
 use second::judge::{next_order, Relations};
 use second::random::{case, damaged, whole, Rng, WAYS};
 use second::sheet::{MAX_EVENTS, MAX_SCRATCH};
-use second::text::{from_text, to_text};
+use second::text::{from_text, hex, to_text};
 use second::{judge, judge_into, needed_scratch, read, Answer, Row};
 use std::collections::BTreeMap;
 
@@ -131,6 +131,107 @@ fn text_and_back() {
         let text = to_text(&c.sheet);
         assert_eq!(from_text(&text).as_deref(), Ok(&c.sheet[..]), "{}\n{text}", c.name);
     }
+}
+
+/// Edition 2 in the text: every tear byte, every kind of event, and heads in odd places.
+#[test]
+fn text_and_back_of_edition_2() {
+    let there_and_back = |sheet: &[u8], expected: &str| {
+        let text = to_text(sheet);
+        assert_eq!(from_text(&text).as_deref(), Ok(sheet), "{text}");
+        assert_eq!(text, expected);
+    };
+    let field = |tag: u8, value: &[u8]| [&[tag, 0, value.len() as u8], value].concat();
+    // the event without its tear byte and data, its data, the lines for the tear bytes 0 and 1, `-` for bytes
+    let cases: [(&[u8], &[u8], &str, &str); 10] = [
+        (&[0, 2, 0, 0, 1], &[1], "init at 0: 01", "-"),
+        (&[1, 4, 2, 0, 0], &[], "A1 marker", "-"),
+        (&[1, 1, 1, 3, 1], &[1], "A1 read unordered may-tear at 3: 01", "A1 read unordered at 3: 01"),
+        (&[2, 2, 1, 2, 2], &[1, 2], "A2 write unordered may-tear at 2: 01 02", "A2 write unordered at 2: 01 02"),
+        (&[2, 2, 1, 1, 2], &[1, 2], "A2 write unordered at 1: 01 02", "-"),
+        (&[2, 1, 1, 0, 3], &[1, 2, 3], "A2 read unordered at 0: 01 02 03", "-"),
+        (&[2, 2, 1, 8, 8], &[7; 8], "A2 write unordered at 8: 07 07 07 07 07 07 07 07", "-"),
+        (&[3, 3, 2, 0, 1], &[1, 2], "A3 rmw sc may-tear at 0: 01 -> 02", "A3 rmw sc at 0: 01 -> 02"),
+        (&[3, 2, 2, 1, 2], &[1, 2], "A3 write sc may-tear at 1: 01 02", "A3 write sc at 1: 01 02"),
+        (&[3, 2, 1, 0, 0], &[], "-", "-"),
+    ];
+    let head = field(1, &[2, 3, 9]);
+    for (front, data, may_tear, tear_free) in &cases {
+        for tear in 0..=255 {
+            let event = field(2, &[front, &[tear][..], data].concat());
+            let line = match tear {
+                0 if *may_tear != "-" => format!("0 {may_tear}"),
+                1 if *tear_free != "-" => format!("0 {tear_free}"),
+                _ => format!("bytes {}", hex(&event)),
+            };
+            there_and_back(&[&head[..], &event].concat(), &format!("head 2 3 9\n{line}\n"));
+        }
+        // no tear byte at all
+        let event = field(2, front);
+        there_and_back(&[&head[..], &event].concat(), &format!("head 2 3 9\nbytes {}\n", hex(&event)));
+    }
+    // the last whole head decides, whatever stands before and behind it
+    let (one, two) = (field(2, &[1, 1, 1, 0, 1, 5]), field(2, &[1, 1, 1, 0, 1, 0, 5]));
+    let (first, second, third) = (field(1, &[1, 1, 1]), field(1, &[2, 1, 1]), field(1, &[3, 1, 1]));
+    let short = field(1, &[2, 1]);
+    for (fields, expected) in [
+        (vec![&one], "0 A1 read unordered at 0: 05\n"),
+        (vec![&two], "bytes 02 00 07 01 01 01 00 01 00 05\n"),
+        (vec![&second, &two], "head 2 1 1\n0 A1 read unordered may-tear at 0: 05\n"),
+        (vec![&second, &one], "head 2 1 1\nbytes 02 00 06 01 01 01 00 01 05\n"),
+        (vec![&first, &one, &second, &two], "head 1 1 1\n0 A1 read unordered at 0: 05\nhead 2 1 1\n1 A1 read unordered may-tear at 0: 05\n"),
+        (vec![&two, &second, &two, &third, &one], "bytes 02 00 07 01 01 01 00 01 00 05\nhead 2 1 1\n1 A1 read unordered may-tear at 0: 05\nhead 3 1 1\n2 A1 read unordered at 0: 05\n"),
+        (vec![&short, &one], "bytes 01 00 02 02 01\n0 A1 read unordered at 0: 05\n"),
+        (vec![&second, &short, &two], "head 2 1 1\nbytes 01 00 02 02 01\n0 A1 read unordered may-tear at 0: 05\n"),
+        (vec![&second, &first, &two], "head 2 1 1\nhead 1 1 1\nbytes 02 00 07 01 01 01 00 01 00 05\n"),
+    ] {
+        there_and_back(&fields.into_iter().flatten().copied().collect::<Vec<u8>>(), expected);
+    }
+    // the word gives 0 wherever it stands; edition 1 has no such byte, nor has a number that is no edition
+    let odd = from_text("head 2 1 9\nA1 read unordered may-tear at 1: 01 02").unwrap();
+    assert_eq!(odd[6..], field(2, &[1, 1, 1, 1, 2, 0, 1, 2]));
+    for head in ["", "head 1 1 1\n", "head 0 1 1\n", "head 3 1 1\n", "head 2 1\n", "head 2 1 1\nhead 1 1 1\n"] {
+        let text = format!("{head}A1 read unordered may-tear at 0: 01");
+        assert!(from_text(&text).unwrap_err().contains("may-tear needs a head of edition 2"), "{text}");
+    }
+    for line in ["A1 marker may-tear", "init may-tear at 0: 01", "A1 read may-tear unordered at 0: 01"] {
+        assert!(from_text(&format!("head 2 1 1\n{line}")).is_err(), "{line}");
+    }
+}
+
+/// Any bytes at all have a text that gives them back.
+#[test]
+fn text_and_back_of_any_fields() {
+    let mut rng = Rng::new(16);
+    let mut words = 0;
+    for _ in 0..50_000 {
+        let mut sheet = if rng.percent(50) { vec![1, 0, 3, 2, 2, 9] } else { vec![] };
+        for _ in 0..rng.range(1, 5) {
+            let tag = rng.range(0, 5) as u8;
+            let mut value: Vec<u8> = (0..rng.below(12)).map(|_| rng.below(4) as u8).collect();
+            if tag == 1 && rng.percent(70) {
+                value = vec![rng.below(4) as u8, 2, 9];
+            }
+            if tag == 2 && rng.percent(70) {
+                let width = rng.range(0, 4);
+                value = vec![
+                    rng.below(3) as u8,
+                    rng.range(1, 4) as u8,
+                    rng.below(3) as u8,
+                    rng.below(3) as u8,
+                    width as u8,
+                ];
+                value.extend((0..width + rng.below(3)).map(|_| rng.below(3) as u8));
+            }
+            sheet.extend([tag, 0, value.len() as u8]);
+            sheet.extend(value);
+        }
+        sheet.truncate(sheet.len() - rng.below(2) * rng.below(3));
+        let text = to_text(&sheet);
+        words += text.matches("may-tear").count();
+        assert_eq!(from_text(&text).as_deref(), Ok(&sheet[..]), "{text}");
+    }
+    assert!(words > 100, "{words}");
 }
 
 #[test]

@@ -1,4 +1,5 @@
-//! The sheet: fields, events, rows, pairs; refusals 1 to 11 in the order of document 01, and 14 (02 §1).
+//! The sheet of editions 1 and 2 (02 §4): fields, events, rows, pairs; refusals 1 to 11 in the order of document 01, and 14
+//! (02 §1).
 
 /// "At most 4,096 bytes."
 pub const MAX_SHEET: usize = 4096;
@@ -31,8 +32,8 @@ pub enum Mode {
     Sc,
 }
 
-/// What an event does to one range of bytes. Sheets of edition 1 have one access an event, in region 0; 02 §11 gives an
-/// event "one or two accesses in distinct regions". Bytes are numbered through all regions, region * 64 + address, so
+/// What an event does to one range of bytes. Sheets of editions 1 and 2 have one access an event, in region 0; 02 §11 gives
+/// an event "one or two accesses in distinct regions". Bytes are numbered through all regions, region * 64 + address, so
 /// that bytes, ranges and rows of different regions never meet.
 #[derive(Clone, Debug, PartialEq, Eq)]
 pub struct Access {
@@ -44,6 +45,7 @@ pub struct Access {
     pub seen: Vec<u8>,
     /// What was written, likewise.
     pub written: Vec<u8>,
+    /// 02 §4: "Both editions give the same event record, with its tear byte". False for inits and markers.
     pub tear_free: bool,
 }
 
@@ -211,12 +213,12 @@ pub fn read(sheet: &[u8]) -> Result<Execution, Refusal> {
     Ok(x)
 }
 
-/// "edition (1), agents (1 to 8), memory size in bytes (1 to 64)"
+/// "edition (1), agents (1 to 8), memory size in bytes (1 to 64)"; with 02 §4 there is an "Edition 2", and "Edition 1 stays".
 fn head(x: &mut Execution, value: &[u8]) -> Result<(), u8> {
     if value.len() != 3 {
         return Err(4);
     }
-    if value[0] != 1 || !(1..=8).contains(&value[1]) || !(1..=64).contains(&value[2]) {
+    if !(1..=2).contains(&value[0]) || !(1..=8).contains(&value[1]) || !(1..=64).contains(&value[2]) {
         return Err(5);
     }
     x.edition = value[0];
@@ -227,13 +229,15 @@ fn head(x: &mut Execution, value: &[u8]) -> Result<(), u8> {
 
 /// "For an event: value under five bytes (4), content (6), exact length (4), count (9)."
 fn event(x: &mut Execution, value: &[u8], place: usize) -> Result<(), u8> {
-    if value.len() < 5 {
+    // 02 §4: "Edition 2 adds a sixth byte to each event before the data"; "The "under five bytes" test is six for edition 2."
+    let before_data = if x.edition == 2 { 6 } else { 5 };
+    if value.len() < before_data {
         return Err(4);
     }
     let agent = value[0];
     let start = value[3] as usize;
     let width = value[4] as usize;
-    let data = &value[5..];
+    let data = &value[before_data..];
     // "decided by number, and every number not listed is refused"
     let kind = match value[1] {
         1 => Kind::Read,
@@ -252,6 +256,11 @@ fn event(x: &mut Execution, value: &[u8], place: usize) -> Result<(), u8> {
     if !content(x, agent, &a) {
         return Err(6);
     }
+    // the tear byte is content, so before the exact length
+    a.tear_free = match x.edition {
+        2 => tear_by_the_byte(&a, value[5])?,
+        _ => tear_by_the_rule(&a),
+    };
     // "Data is width bytes for a read (what was seen) and a write; twice the width for kind 3 (seen, then written);
     // none for a marker."
     let exact = match kind {
@@ -276,7 +285,6 @@ fn event(x: &mut Execution, value: &[u8], place: usize) -> Result<(), u8> {
         }
         Kind::Marker => {}
     }
-    a.tear_free = tear_free(&a);
     x.events.push(Event { agent, accesses: vec![a], place });
     Ok(())
 }
@@ -314,12 +322,32 @@ fn ranged(a: &Access) -> bool {
 }
 
 /// "Tear-free: every sc event; an unordered event of width 1, 2 or 4 whose start is divisible by its width. Inits are
-/// not."
-fn tear_free(a: &Access) -> bool {
+/// not." 02 §4: "Edition 1 stays". A marker's byte is 0 in the record, at edition 1 too.
+fn tear_by_the_rule(a: &Access) -> bool {
     match a.mode {
         Mode::Init => false,
-        Mode::Sc => true,
+        Mode::Sc => a.kind != Kind::Marker,
         Mode::Unordered => matches!(a.width, 1 | 2 | 4) && a.start.is_multiple_of(a.width),
+    }
+}
+
+/// 02 §4: "a sixth byte to each event before the data: 0 may tear, 1 tear-free. It must be 1 for sc reads, writes and
+/// read-modify-writes, free for unordered ones of width 1, 2 or 4 whose start is divisible by the width, 0 for all else;
+/// otherwise refusal 6."
+fn tear_by_the_byte(a: &Access, byte: u8) -> Result<bool, u8> {
+    let allowed: &[u8] = match (a.kind, a.mode) {
+        (Kind::Read | Kind::Write | Kind::ReadModifyWrite, Mode::Sc) => &[1],
+        (Kind::Read | Kind::Write | Kind::ReadModifyWrite, Mode::Unordered) => match a.width {
+            1 => &[0, 1],
+            2 | 4 if a.start.is_multiple_of(a.width) => &[0, 1],
+            _ => &[0],
+        },
+        _ => &[0],
+    };
+    if allowed.contains(&byte) {
+        Ok(byte == 1)
+    } else {
+        Err(6)
     }
 }
 

@@ -2,7 +2,8 @@
 //!
 //! The writer "refuses exactly what the reader would refuse in 1 and 4 to 11 and 14, with the same number and in the same
 //! order". So the sheet is put together first, whatever the table says, and this program's own reader is asked; then its
-//! place is turned into an index. What a sheet of edition 1 cannot say, the tear byte, is tested beside it.
+//! place is turned into an index. 02 §4: "The writer takes the edition as an input": it is the head's first byte. What a
+//! sheet of edition 1 cannot say, the tear byte, is tested beside it.
 
 use crate::sheet::{read, Kind, Mode};
 
@@ -93,10 +94,16 @@ pub fn write(lent: Lent, out: &mut [u8]) -> Written {
     let mut sheet = vec![];
     let mut tags = vec![];
     let said = |i: usize| lent.head.get(i).copied().unwrap_or(0);
+    let edition = said(0);
     tags.push(sheet.len());
-    put(&mut sheet, 1, &[said(0), said(1), said(2)]);
+    put(&mut sheet, 1, &[edition, said(1), said(2)]);
     for d in &events {
         let mut value = vec![d.agent, d.kind, d.mode, d.start, d.width];
+        // 02 §4: "Edition 2 adds a sixth byte to each event before the data"; a number that is no edition has edition 1's
+        // layout
+        if edition == 2 {
+            value.push(d.tear);
+        }
         value.extend(&d.data);
         tags.push(sheet.len());
         put(&mut sheet, 2, &value);
@@ -119,8 +126,10 @@ pub fn write(lent: Lent, out: &mut [u8]) -> Written {
     };
     // the field that a place stands in
     let field_at = |place: usize| tags.iter().rposition(|&tag| tag <= place).expect("the head stands at 0");
-    // 02 §4: "at edition 1 it refuses, 6, a tear byte other than 01's rule gives". It is content of its event.
-    let torn = events.iter().position(|d| d.tear != tear_by_the_rule(d)).map(|event| 1 + event);
+    // 02 §4: "at edition 1 it refuses, 6, a tear byte other than 01's rule gives". It is content of its event. At edition 2
+    // the byte stands in the sheet and the reader tests it; a number that is no edition is refused before any event.
+    let other = |d: &Description| edition == 1 && d.tear != tear_by_the_rule(d);
+    let torn = events.iter().position(other).map(|event| 1 + event);
     let refused = match read(&sheet) {
         Err((1, _)) => Some((1, 0)),
         // a field in front of the one with the wrong tear byte is at fault first; in that field itself content comes before
@@ -187,7 +196,7 @@ pub fn lists(sheet: &[u8]) -> Result<[Vec<u8>; 5], (u8, usize)> {
             Mode::Unordered => 1,
             Mode::Sc => 2,
         };
-        let tear = u8::from(a.tear_free && a.kind != Kind::Marker);
+        let tear = u8::from(a.tear_free);
         let count = (a.seen.len() + a.written.len()) as u16;
         events.extend([e.agent, kind, mode, a.start as u8, a.width as u8, tear]);
         events.extend(count.to_be_bytes());

@@ -1,7 +1,7 @@
 //! The second program and the random sheets, held against each other.
 
 use second::judge::{next_order, Relations};
-use second::random::{case, damaged, whole, Rng, WAYS};
+use second::random::{case, damaged, shown, whole, Rng, SHOWN, WAYS};
 use second::sheet::{MAX_EVENTS, MAX_SCRATCH};
 use second::text::{from_text, hex, to_text};
 use second::{judge, judge_into, needed_scratch, read, Answer, Row};
@@ -243,25 +243,84 @@ fn same_seed_same_sheets() {
     assert!(differ > 90);
 }
 
-/// Random sheets earn every number and every rule, with and without an unsettled pair.
+/// Random sheets of each edition earn every number and every rule, with and without an unsettled pair; and each test of
+/// 02 §4 comes up.
 #[test]
 fn every_answer_comes_up() {
     let mut hit: BTreeMap<String, usize> = BTreeMap::new();
-    for index in 0..50_000 {
+    let mut of_2: BTreeMap<&str, usize> = BTreeMap::new();
+    for index in 0..100_000 {
         let c = case(1, index, 6);
-        let what = match judge(&c.sheet, c.scratch, c.order) {
+        let answer = judge(&c.sheet, c.scratch, c.order);
+        let what = match &answer {
             Answer::Refused { number, .. } => format!("refused {number:2}"),
             Answer::Broken { number, .. } => format!("broken {number}"),
             Answer::Consistent { pair: None, .. } => "consistent orderly".to_string(),
             Answer::Consistent { pair: Some(_), .. } => "consistent unsettled".to_string(),
         };
-        *hit.entry(what).or_default() += 1;
+        if let [1, 0, 3, edition @ 1..=2, ..] = c.sheet[..] {
+            *hit.entry(format!("edition {edition}: {what}")).or_default() += 1;
+        }
+        for what in shown(&c.sheet, &answer) {
+            *of_2.entry(what).or_default() += 1;
+        }
     }
     for (what, times) in &hit {
         println!("{what}: {times}");
     }
-    assert_eq!(hit.len(), 14 + 6 + 2);
+    for (what, times) in &of_2 {
+        println!("{what}: {times}");
+    }
+    assert_eq!(hit.len(), 2 * (14 + 6 + 2));
     assert!(hit.values().all(|&times| times >= 100), "{hit:?}");
+    assert!(of_2.keys().all(|what| SHOWN.contains(what)), "{of_2:?}");
+    assert!(SHOWN.iter().all(|what| of_2.get(what).is_some_and(|&times| times >= 20)), "{of_2:?}");
+}
+
+/// Litmus 12 at edition 2, with each choice of the three tear bytes: 25 comes only where all three are tear-free.
+#[test]
+fn litmus_12_by_the_tear_bytes() {
+    for choice in 0..8u8 {
+        let word = |event: u8| if choice >> event & 1 == 1 { "" } else { "may-tear " };
+        let text = format!(
+            "head 2 3 2\n0 init at 0: 00 00\n1 A1 write unordered {}at 0: 01 01\n2 A2 write unordered {}at 0: 02 02\n\
+             3 A3 read unordered {}at 0: 01 02\nrow 3 0 1\nrow 3 1 2\n",
+            word(0),
+            word(1),
+            word(2)
+        );
+        let sheet = from_text(&text).unwrap();
+        let expected = if choice == 7 { "broken 25 3 1 2 -" } else { "consistent unsettled 1 2 then 0 1 2 3" };
+        assert_eq!(judge(&sheet, MAX_SCRATCH, MAX_EVENTS).line(), expected, "{text}");
+        let tear_free: Vec<bool> = read(&sheet).unwrap().events.iter().map(|e| e.accesses[0].tear_free).collect();
+        assert_eq!(tear_free, [false, choice & 1 == 1, choice & 2 == 2, choice & 4 == 4]);
+    }
+}
+
+/// "Both editions give the same event record, with its tear byte": a sheet of edition 1, and the same with the tear bytes
+/// of 01's rule at edition 2, say the same and get the same answer.
+#[test]
+fn both_editions_give_the_same_record() {
+    let mut rng = Rng::new(17);
+    let mut compared = 0;
+    while compared < 5000 {
+        let one = second::random::bytes(&whole(&mut rng, 8).1);
+        if one[3] != 1 {
+            continue;
+        }
+        let text = to_text(&one);
+        let two = from_text(&text.replacen("head 1", "head 2", 1)).unwrap();
+        let (mut x, mut y) = (read(&one).unwrap(), read(&two).unwrap());
+        assert_eq!((x.edition, y.edition), (1, 2));
+        y.edition = 1;
+        for e in x.events.iter_mut().chain(&mut y.events) {
+            e.place = 0;
+        }
+        assert_eq!(x, y, "{text}");
+        let [first, second] = [&one, &two].map(|sheet| judge(sheet, MAX_SCRATCH, MAX_EVENTS));
+        assert_eq!(first, second, "{text}");
+        compared += 1;
+    }
 }
 
 /// The reader's table, written by hand.

@@ -61,7 +61,9 @@ fn every_number() {
     // right by chance, and then nothing is left for the next
     refused(lent(&HEAD, &longer, &DATA[..1], &ROWS, &[]), 4, 1);
     // 5: each byte of the head; what a shorter slice lacks is 0; a longer one is not looked at
-    for head in [&[0, 1, 1][..], &[2, 1, 1], &[1, 0, 1], &[1, 9, 1], &[1, 1, 0], &[1, 1, 65], &[], &[1], &[1, 1]] {
+    for head in
+        [&[0, 1, 1][..], &[3, 1, 1], &[255, 1, 1], &[1, 0, 1], &[1, 9, 1], &[1, 1, 0], &[1, 1, 65], &[], &[1], &[1, 1]]
+    {
         refused(lent(head, &EVENTS, &DATA, &ROWS, &[]), 5, 0);
     }
     let answer = write(lent(&[1, 1, 1, 7, 7], &EVENTS, &DATA, &ROWS, &[]), &mut [0; 30]);
@@ -104,6 +106,68 @@ fn every_number() {
         assert_eq!(answer.word(), 0x10f_0000_0000);
         assert_eq!(out, vec![9; length]);
         assert_eq!(write(lent(&HEAD, &EVENTS, &DATA, &[], &[]), &mut out), Written::Refused { number: 11, index: 1 });
+    }
+}
+
+/// The same table at edition 2: the tear byte stands in the sheet, and one that the event must not have is 6.
+#[test]
+fn edition_2() {
+    let head = [2, 1, 1];
+    let mut out = [9; 34];
+    let answer = write(lent(&head, &EVENTS, &DATA, &ROWS, &[]), &mut out);
+    assert_eq!(answer, Written::Written { length: 32 });
+    let sheet =
+        from_hex("01 00 03 02 01 01 02 00 07 00 02 00 00 01 00 00 02 00 07 01 01 01 00 01 01 00 03 00 03 01 00 00");
+    assert_eq!(out[..32], sheet.unwrap());
+    assert_eq!(out[32..], [9, 9]);
+    assert_eq!(lists(&out[..32]).unwrap()[1], EVENTS);
+    // the read may tear: written so, and it comes back so; at edition 1 it is 6
+    let mut torn = EVENTS;
+    torn[13] = 0;
+    assert_eq!(write(lent(&head, &torn, &DATA, &ROWS, &[]), &mut out), Written::Written { length: 32 });
+    assert_eq!((out[24], &lists(&out[..32]).unwrap()[1][..]), (0, &torn[..]));
+    assert_eq!(write(lent(&HEAD, &torn, &DATA, &ROWS, &[]), &mut out), Written::Refused { number: 6, index: 1 });
+    let refused = |events: &[u8], data: &[u8], number: u8, index: usize| {
+        let mut out = [9; 4096];
+        assert_eq!(write(lent(&[2, 1, 16], events, data, &[], &[]), &mut out), Written::Refused { number, index });
+        assert_eq!(out, [9; 4096]);
+    };
+    // an event and its data; the tear bytes that it may have
+    let unbroken: &[u8] = &[0, 1];
+    for (front, data, allowed) in [
+        ([0, 2, 0, 0, 2], 2, &[0][..]),
+        ([1, 4, 2, 0, 0], 0, &[0]),
+        ([1, 1, 2, 2, 2], 2, &[1]),
+        ([1, 2, 2, 8, 8], 8, &[1]),
+        ([1, 3, 2, 4, 4], 8, &[1]),
+        ([1, 2, 1, 3, 1], 1, unbroken),
+        ([1, 1, 1, 2, 2], 2, unbroken),
+        ([1, 2, 1, 4, 4], 4, unbroken),
+        ([1, 2, 1, 3, 2], 2, &[0]),
+        ([1, 1, 1, 2, 4], 4, &[0]),
+        ([1, 2, 1, 0, 8], 8, &[0]),
+    ] {
+        for tear in 0..=255 {
+            let event = [&front[..], &[tear, 0, data as u8]].concat();
+            let longer = [&front[..], &[tear, 0, data as u8 + 1]].concat();
+            let reads = front[1] % 2 == 1;
+            if allowed.contains(&tear) {
+                refused(&event, &[0; 16][..data], if reads { 11 } else { 10 }, 0);
+                refused(&longer, &[0; 16][..data + 1], 4, 0);
+            } else {
+                // before the exact length
+                refused(&event, &[0; 16][..data], 6, 0);
+                refused(&longer, &[0; 16][..data + 1], 6, 0);
+            }
+        }
+    }
+    // a number that is no edition: edition 1's layout for 1, then 5. The sheet has 4,097 bytes at edition 2 only.
+    let count: u16 = 4096 - 6 - 8;
+    let event = [&[1, 2, 1, 0, 1, 1][..], &count.to_be_bytes()].concat();
+    let data = vec![0; count as usize];
+    for (edition, number) in [(0, 5), (1, 4), (2, 1), (3, 5), (255, 5)] {
+        let answer = write(lent(&[edition, 1, 1], &event, &data, &[], &[]), &mut []);
+        assert_eq!(answer, Written::Refused { number, index: 0 }, "edition {edition}");
     }
 }
 

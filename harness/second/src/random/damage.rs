@@ -1,6 +1,9 @@
-//! Sheets damaged in every way that document 01 refuses.
+//! Sheets damaged in every way that document 01 and 02 §4 refuse.
 
 use super::*;
+
+/// The tear byte in the value of an edition 2 event.
+const TEAR: usize = 5;
 
 type Make = fn(&mut Rng, Vec<Field>) -> Option<(Vec<u8>, usize)>;
 
@@ -62,6 +65,38 @@ fn size(fields: &[Field]) -> u8 {
 fn agents(fields: &[Field]) -> u8 {
     fields[0].value[1]
 }
+fn edition(fields: &[Field]) -> u8 {
+    fields[0].value[0]
+}
+/// Where an event's data begins.
+fn front(fields: &[Field]) -> usize {
+    before_data(edition(fields))
+}
+/// One of the events that pass the test, in a sheet of edition 2.
+fn one_of_2(rng: &mut Rng, fields: &[Field], test: impl Fn(&Field) -> bool) -> Option<usize> {
+    if edition(fields) != 2 {
+        return None;
+    }
+    one(rng, fields, |f| is_event(f) && test(f))
+}
+/// An unordered read or write whose tear byte must be 0.
+fn must_tear(f: &Field) -> bool {
+    is_access(f) && f.value[2] == U && tear_by_the_rule(f.value[1], U, f.value[3], f.value[4]) == 0
+}
+/// A tear byte that the field's event must not have.
+fn wrong_tear(rng: &mut Rng, f: &Field) -> u8 {
+    let high = rng.pick(&[2, 3, 128, 254, 255]);
+    match (is_access(f), f.value[2]) {
+        (true, SC) => rng.pick(&[0, 0, high]),
+        (true, _) if !must_tear(f) => high,
+        _ => rng.pick(&[1, 1, high]),
+    }
+}
+/// A whole event for these fields' edition, one that is tear-free where it may be.
+fn an_event(fields: &[Field], front: [u8; 5], data: &[u8]) -> Field {
+    let [_, kind, mode, start, width] = front;
+    field(2, event_value(edition(fields), front, tear_by_the_rule(kind, mode, start, width), data))
+}
 
 /// The fields with number `i` at fault.
 fn at(fields: Vec<Field>, i: usize) -> Option<(Vec<u8>, usize)> {
@@ -105,13 +140,14 @@ fn after_events(fields: &[Field]) -> usize {
     1 + events(fields)
 }
 
-/// Fields with twelve markers of three agents, and as many pairs.
+/// Fields with twelve markers of three agents, and as many pairs, of either edition.
 fn many_pairs(rng: &mut Rng, pairs: usize) -> Vec<Field> {
-    let mut fields = vec![field(1, vec![1, 3, 1]), field(2, vec![0, 2, 0, 0, 1, 0])];
+    let mut fields = vec![field(1, vec![rng.range(1, 2) as u8, 3, 1])];
+    fields.push(an_event(&fields, [0, WRITE, 0, 0, 1], &[0]));
     for i in 0..12u8 {
-        fields.push(field(2, vec![1 + i % 3, MARKER, SC, 0, 0]));
+        fields.push(an_event(&fields, [1 + i % 3, MARKER, SC, 0, 0], &[]));
     }
-    fields.push(field(2, vec![1, READ, U, 0, 1, 0]));
+    fields.push(an_event(&fields, [1, READ, U, 0, 1], &[0]));
     fields.push(field(3, vec![13, 0, 0]));
     let mut all: Vec<[u8; 2]> = vec![];
     for a in 0..12u8 {
@@ -134,7 +170,7 @@ fn with_others(rng: &mut Rng, mut fields: Vec<Field>, n: usize) -> Vec<Field> {
         let i = after_events(&fields);
         let agent = rng.range(1, agents(&fields) as usize) as u8;
         let start = rng.below(size(&fields) as usize) as u8;
-        fields.insert(i, field(2, vec![agent, WRITE, U, start, 1, 7]));
+        fields.insert(i, an_event(&fields, [agent, WRITE, U, start, 1], &[7]));
     }
     fields
 }
@@ -220,7 +256,7 @@ pub const WAYS: &[Way] = &[
     }),
     way(3, "event-after-row", |rng, fields| {
         let last = fields.len();
-        let f = field(2, vec![1, WRITE, U, 0, 1, 5]);
+        let f = an_event(&fields, [1, WRITE, U, 0, 1], &[5]);
         let i = rng.range(2 + events(&fields), last);
         put(fields, i, f)
     }),
@@ -250,9 +286,20 @@ pub const WAYS: &[Way] = &[
         resized(rng, &mut fields, i, length);
         at(fields, i)
     }),
+    way(4, "event-under-six", |rng, mut fields| {
+        let i = one_of_2(rng, &fields, |_| true)?;
+        fields[i].value.truncate(5);
+        fields[i].length = 5;
+        // before its content
+        let item = rng.below(5);
+        if rng.percent(30) {
+            fields[i].value[item] = rng.byte();
+        }
+        at(fields, i)
+    }),
     way(4, "event-data-short", |rng, mut fields| {
         let i = one(rng, &fields, |f| is_event(f) && !is_marker(f))?;
-        let length = rng.range(5, fields[i].value.len() - 1);
+        let length = rng.range(front(&fields), fields[i].value.len() - 1);
         resized(rng, &mut fields, i, length);
         at(fields, i)
     }),
@@ -264,13 +311,13 @@ pub const WAYS: &[Way] = &[
     }),
     way(4, "write-with-data-of-rmw", |rng, mut fields| {
         let i = one(rng, &fields, |f| is_access(f) && f.value[1] != RMW)?;
-        let length = 5 + 2 * fields[i].value[4] as usize;
+        let length = front(&fields) + 2 * fields[i].value[4] as usize;
         resized(rng, &mut fields, i, length);
         at(fields, i)
     }),
     way(4, "marker-with-data", |rng, mut fields| {
         let i = one(rng, &fields, is_marker)?;
-        let length = 5 + rng.range(1, 4);
+        let length = front(&fields) + rng.range(1, 4);
         resized(rng, &mut fields, i, length);
         at(fields, i)
     }),
@@ -298,10 +345,11 @@ pub const WAYS: &[Way] = &[
     way(4, "17th-event-of-wrong-length", |rng, fields| {
         let fields = with_others(rng, fields, MAX_OTHERS);
         let i = after_events(&fields);
-        put(fields, i, field(2, vec![1, WRITE, U, 0, 1, 7, 7]))
+        let f = an_event(&fields, [1, WRITE, U, 0, 1], &[7, 7]);
+        put(fields, i, f)
     }),
     way(5, "edition", |rng, fields| {
-        let to = rng.pick(&[0, 2, 3, 255, 128]);
+        let to = rng.pick(&[0, 3, 3, 4, 255, 128]);
         set(fields, Some(0), 0, to)
     }),
     way(5, "agents", |rng, fields| {
@@ -344,7 +392,7 @@ pub const WAYS: &[Way] = &[
         let i = one(rng, &fields, is_init)?;
         let to = rng.pick(&[READ, RMW, MARKER]);
         if to == RMW {
-            let length = 5 + 2 * fields[i].value[4] as usize;
+            let length = front(&fields) + 2 * fields[i].value[4] as usize;
             resized(rng, &mut fields, i, length);
         }
         set(fields, Some(i), 1, to)
@@ -356,14 +404,15 @@ pub const WAYS: &[Way] = &[
     }),
     way(6, "init-width-zero", |rng, mut fields| {
         let i = one(rng, &fields, is_init)?;
-        fields[i].value.truncate(5);
-        fields[i].length = 5;
+        let length = front(&fields);
+        resized(rng, &mut fields, i, length);
         set(fields, Some(i), 4, 0)
     }),
     way(6, "init-past-memory", |rng, mut fields| {
         let i = one(rng, &fields, is_init)?;
         let width = size(&fields) - fields[i].value[3] + 1;
-        resized(rng, &mut fields, i, 5 + width as usize);
+        let length = front(&fields) + width as usize;
+        resized(rng, &mut fields, i, length);
         set(fields, Some(i), 4, width)
     }),
     way(6, "init-late", |rng, mut fields| {
@@ -377,10 +426,9 @@ pub const WAYS: &[Way] = &[
         let f = &fields[i].value;
         let start = rng.range(f[3] as usize, (f[3] + f[4]) as usize - 1) as u8;
         let width = rng.range(1, (size(&fields) - start) as usize);
-        let mut value = vec![0, WRITE, 0, start, width as u8];
-        value.resize(5 + width, 0);
+        let overlapping = an_event(&fields, [0, WRITE, 0, start, width as u8], &vec![0; width]);
         let inits = fields.iter().filter(|f| is_init(f)).count();
-        put(fields, 1 + inits, field(2, value))
+        put(fields, 1 + inits, overlapping)
     }),
     way(6, "fifth-init-overlaps", |rng, fields| five_inits(rng, fields, |f| f.value[3] = 0)),
     way(6, "width", |rng, mut fields| {
@@ -388,7 +436,8 @@ pub const WAYS: &[Way] = &[
         let to = rng.pick(&[0, 3, 5, 6, 7, 9, 16, 255]);
         if rng.percent(50) {
             let data = to as usize * if fields[i].value[1] == RMW { 2 } else { 1 };
-            resized(rng, &mut fields, i, 5 + data);
+            let length = front(&fields) + data;
+            resized(rng, &mut fields, i, length);
         }
         set(fields, Some(i), 4, to)
     }),
@@ -425,7 +474,8 @@ pub const WAYS: &[Way] = &[
     way(6, "marker-width", |rng, mut fields| {
         let i = one(rng, &fields, is_marker)?;
         if rng.percent(50) {
-            resized(rng, &mut fields, i, 6);
+            let length = front(&fields) + 1;
+            resized(rng, &mut fields, i, length);
         }
         set(fields, Some(i), 4, 1)
     }),
@@ -438,7 +488,58 @@ pub const WAYS: &[Way] = &[
     way(6, "17th-event-of-bad-content", |rng, fields| {
         let fields = with_others(rng, fields, MAX_OTHERS);
         let i = after_events(&fields);
-        put(fields, i, field(2, vec![0, WRITE, U, 0, 1, 7]))
+        let f = an_event(&fields, [0, WRITE, U, 0, 1], &[7]);
+        put(fields, i, f)
+    }),
+    way(6, "tear-over-one", |rng, fields| {
+        let i = one_of_2(rng, &fields, |_| true);
+        let to = rng.pick(&[2, 3, 128, 254, 255]);
+        set(fields, Some(i?), TEAR, to)
+    }),
+    way(6, "sc-may-tear", |rng, fields| {
+        let i = one_of_2(rng, &fields, |f| is_access(f) && f.value[2] == SC);
+        set(fields, Some(i?), TEAR, 0)
+    }),
+    way(6, "width-8-tear-free", |rng, fields| {
+        let i = one_of_2(rng, &fields, |f| must_tear(f) && f.value[4] == 8);
+        set(fields, Some(i?), TEAR, 1)
+    }),
+    way(6, "odd-start-tear-free", |rng, fields| {
+        let i = one_of_2(rng, &fields, |f| must_tear(f) && f.value[4] < 8);
+        set(fields, Some(i?), TEAR, 1)
+    }),
+    way(6, "marker-tear-free", |rng, fields| {
+        let i = one_of_2(rng, &fields, is_marker);
+        set(fields, Some(i?), TEAR, 1)
+    }),
+    way(6, "init-tear-free", |rng, fields| {
+        let i = one_of_2(rng, &fields, is_init);
+        set(fields, Some(i?), TEAR, 1)
+    }),
+    way(6, "tear-before-length", |rng, mut fields| {
+        let i = one_of_2(rng, &fields, |_| true)?;
+        fields[i].value[TEAR] = wrong_tear(rng, &fields[i]);
+        let was = fields[i].value.len();
+        let length = if was > 6 && rng.percent(50) { rng.range(6, was - 1) } else { was + rng.range(1, 9) };
+        resized(rng, &mut fields, i, length);
+        at(fields, i)
+    }),
+    way(6, "17th-event-of-wrong-tear", |rng, fields| {
+        if edition(&fields) != 2 {
+            return None;
+        }
+        let fields = with_others(rng, fields, MAX_OTHERS);
+        let i = after_events(&fields);
+        let front = if rng.percent(50) { [1, WRITE, U, 0, 1] } else { [1, MARKER, SC, 0, 0] };
+        let mut f = an_event(&fields, front, &[7][..front[4] as usize]);
+        f.value[TEAR] = wrong_tear(rng, &f);
+        put(fields, i, f)
+    }),
+    way(6, "fifth-init-of-wrong-tear", |rng, fields| {
+        if edition(&fields) != 2 {
+            return None;
+        }
+        five_inits(rng, fields, |f| f.value[TEAR] = 1)
     }),
     way(7, "reader-out-of-range", |rng, fields| {
         let i = one(rng, &fields, is_row);
@@ -564,8 +665,11 @@ pub const WAYS: &[Way] = &[
     way(9, "17th-event", |rng, fields| {
         let fields = with_others(rng, fields, MAX_OTHERS);
         let i = after_events(&fields);
-        let f = if rng.percent(50) { vec![1, WRITE, U, 0, 1, 7] } else { vec![1, MARKER, SC, 0, 0] };
-        put(fields, i, field(2, f))
+        let f = match rng.percent(50) {
+            true => an_event(&fields, [1, WRITE, U, 0, 1], &[7]),
+            false => an_event(&fields, [1, MARKER, SC, 0, 0], &[]),
+        };
+        put(fields, i, f)
     }),
     way(9, "33rd-pair", |rng, _| {
         let over = rng.range(1, 6);
@@ -578,9 +682,10 @@ pub const WAYS: &[Way] = &[
         if rng.percent(20) {
             fields.retain(|f| f.tag == 1 || is_init(f) || is_marker(f));
         }
+        let front = front(&fields);
         for f in &mut fields[1..] {
             if f.value[1] == RMW {
-                f.value.truncate(5 + f.value[4] as usize);
+                f.value.truncate(front + f.value[4] as usize);
                 f.length = f.value.len();
             }
             if reads(f.value[1]) {
@@ -661,10 +766,34 @@ fn five_inits(rng: &mut Rng, mut fields: Vec<Field>, change: fn(&mut Field)) -> 
     let gap = rng.below(size(&fields) as usize / 5);
     for i in 0..5u8 {
         let start = i * (1 + gap as u8);
-        fields.insert(1 + i as usize, field(2, vec![0, WRITE, 0, start, 1, 0]));
+        fields.insert(1 + i as usize, an_event(&fields, [0, WRITE, 0, start, 1], &[0]));
     }
     change(&mut fields[5]);
     at(fields, 5)
+}
+
+/// A sheet whose edition, or an event of it, is laid out as the other edition has it.
+pub(super) fn other_edition(rng: &mut Rng, mut fields: Vec<Field>, sheet: &mut Vec<u8>) -> &'static str {
+    let e = edition(&fields);
+    let some = one(rng, &fields, is_event).filter(|_| rng.percent(60));
+    let name = match some {
+        None => {
+            fields[0].value[0] = 3 - e;
+            "other-edition"
+        }
+        Some(i) if e == 2 => {
+            fields[i].value.remove(TEAR);
+            fields[i].length -= 1;
+            "tear-byte-lost"
+        }
+        Some(i) => {
+            fields[i].value.insert(TEAR, rng.below(3) as u8);
+            fields[i].length += 1;
+            "tear-byte-more"
+        }
+    };
+    *sheet = bytes(&fields);
+    name
 }
 
 /// Bytes changed without regard to fields.

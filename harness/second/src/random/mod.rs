@@ -1,15 +1,17 @@
-//! Random small sheets by a seed: whole ones around the litmus table, replayed and free, and ones damaged in every way
-//! that document 01 refuses.
+//! Random small sheets by a seed, of both editions: whole ones around the litmus table, replayed and free, and ones damaged
+//! in every way that document 01 and 02 §4 refuse.
 //!
 //! [`case`] gives the sheet of a seed and an index, [`table_case`] the table for the writer, always the same.
 
 use crate::sheet::{read, MAX_EVENTS, MAX_INITS, MAX_OTHERS, MAX_PAIRS, MAX_SCRATCH, MAX_SHEET};
 
 mod damage;
+mod shown;
 mod tables;
 mod whole;
 
 pub use damage::{damaged, Way, WAYS};
+pub use shown::{shown, SHOWN};
 pub use tables::{table_buffers, table_case, table_damaged, table_ways, TableCase};
 pub use whole::{sized, whole};
 
@@ -80,7 +82,10 @@ pub fn case(seed: u64, index: u64, max: usize) -> Case {
         _ => {
             let (what, d) = whole(&mut rng, max);
             let mut sheet = bytes(&d);
-            let how = damage::scramble(&mut rng, &mut sheet);
+            let how = match rng.below(12) {
+                0 => damage::other_edition(&mut rng, d, &mut sheet),
+                _ => damage::scramble(&mut rng, &mut sheet),
+            };
             (format!("{what}-{how}"), sheet)
         }
     };
@@ -129,6 +134,31 @@ pub fn bytes(fields: &[Field]) -> Vec<u8> {
         out.extend(&f.value);
     }
     out
+}
+
+/// An event's value: agent, kind, mode, start, width; at edition 2 the tear byte; data.
+fn event_value(edition: u8, front: [u8; 5], tear: u8, data: &[u8]) -> Vec<u8> {
+    let mut value = front.to_vec();
+    if edition == 2 {
+        value.push(tear);
+    }
+    value.extend(data);
+    value
+}
+
+/// How many bytes stand before an event's data.
+fn before_data(edition: u8) -> usize {
+    if edition == 2 {
+        6
+    } else {
+        5
+    }
+}
+
+/// What 01's rule gives for an event's tear byte.
+fn tear_by_the_rule(kind: u8, mode: u8, start: u8, width: u8) -> u8 {
+    let whole = matches!(width, 1 | 2 | 4) && start.is_multiple_of(width);
+    u8::from(kind != MARKER && (mode == SC || mode == U && whole))
 }
 
 /// The place of a field's tag.

@@ -1,5 +1,5 @@
-//! Random tables for the writer (02 §2): whole ones, ones with each fault that the reader finds in events, rows and pairs,
-//! and ones whose slices do not fit each other. And buffers for the way back.
+//! Random tables of both editions for the writer (02 §2, §4): whole ones, ones with each fault that the reader finds in
+//! events, rows and pairs, and ones whose slices do not fit each other. And buffers for the way back.
 
 use super::*;
 use crate::table::lists;
@@ -23,11 +23,6 @@ struct Draft {
     pairs: Vec<Vec<u8>>,
 }
 
-fn tear_by_the_rule(kind: u8, mode: u8, start: u8, width: u8) -> u8 {
-    let whole = matches!(width, 1 | 2 | 4) && start.is_multiple_of(width);
-    u8::from(kind != MARKER && (mode == SC || mode == U && whole))
-}
-
 impl Draft {
     /// The table of a sheet's fields, if they are in order and have the lengths that a table gives them.
     fn of(fields: &[Field]) -> Option<Draft> {
@@ -40,10 +35,13 @@ impl Draft {
             last = f.tag;
             match (f.tag, f.value.len()) {
                 (1, 3) => d.head = f.value.clone(),
-                (2, 5..) => {
+                (2, length) if length >= d.front() => {
                     let [agent, kind, mode, start, width] = f.value[..5] else { return None };
-                    let tear = tear_by_the_rule(kind, mode, start, width);
-                    let data = f.value[5..].to_vec();
+                    let tear = match d.front() {
+                        6 => f.value[5],
+                        _ => tear_by_the_rule(kind, mode, start, width),
+                    };
+                    let data = f.value[d.front()..].to_vec();
                     let count = data.len();
                     d.events.push(([agent, kind, mode, start, width, tear], data, count));
                 }
@@ -55,9 +53,14 @@ impl Draft {
         Some(d)
     }
 
+    /// How many bytes stand before an event's data.
+    fn front(&self) -> usize {
+        before_data(self.head[0])
+    }
+
     /// The bytes of the sheet that it stands for.
     fn length(&self) -> usize {
-        let events: usize = self.events.iter().map(|e| 3 + 5 + e.1.len()).sum();
+        let events: usize = self.events.iter().map(|e| 3 + self.front() + e.1.len()).sum();
         6 + events + 6 * self.rows.len() + 5 * self.pairs.len()
     }
 
@@ -98,7 +101,7 @@ fn split(sheet: &[u8]) -> Option<Vec<Field>> {
 
 /// The ways of [`WAYS`] that a table can be at fault in.
 pub fn table_ways() -> impl Iterator<Item = &'static Way> {
-    let of_layout = ["head", "event-under-five", "row", "pair"];
+    let of_layout = ["head", "event-under-five", "event-under-six", "row", "pair"];
     WAYS.iter().filter(move |w| !(matches!(w.number, 1..=3) || w.number == 4 && of_layout.contains(&w.name)))
 }
 
@@ -146,10 +149,15 @@ pub fn table_case(seed: u64, index: u64, max: usize) -> TableCase {
                 None => "whole".to_string(),
             }
         }
-        55..=62 => tear(rng, &mut d).to_string(),
-        63..=70 => counts(rng, &mut d).to_string(),
-        71..=76 => sizes(rng, &mut d).to_string(),
-        77..=91 => {
+        55..=63 => tear(rng, &mut d).to_string(),
+        64..=67 => {
+            // the same table with another edition
+            d.head[0] = rng.pick(&[0, 1, 1, 2, 2, 3, 255]);
+            "edition".to_string()
+        }
+        68..=73 => counts(rng, &mut d).to_string(),
+        74..=78 => sizes(rng, &mut d).to_string(),
+        79..=91 => {
             let mut lists = d.lists();
             let what = slices(rng, &mut lists);
             changed = Some(lists);
@@ -171,7 +179,11 @@ pub fn table_case(seed: u64, index: u64, max: usize) -> TableCase {
 fn length_of(lists: &[Vec<u8>; 5]) -> usize {
     let [_, events, data, rows, pairs] = lists;
     let said: usize = events.chunks_exact(8).map(|e| e[6] as usize * 256 + e[7] as usize).sum();
-    6 + 8 * (events.len() / 8) + said.min(data.len()) + 6 * (rows.len() / 3) + 5 * (pairs.len() / 2)
+    let edition = lists[0].first().copied().unwrap_or(0);
+    6 + (3 + before_data(edition)) * (events.len() / 8)
+        + said.min(data.len())
+        + 6 * (rows.len() / 3)
+        + 5 * (pairs.len() / 2)
 }
 
 /// Exactly the sheet's length, a byte less, more, none, the longest sheet's.
@@ -187,7 +199,7 @@ fn out_length(rng: &mut Rng, lists: &[Vec<u8>; 5]) -> usize {
     }
 }
 
-/// A tear byte that 01's rule does not give, alone or beside another fault.
+/// A tear byte that 01's rule does not give, alone or beside another fault. At edition 2 it may be right.
 fn tear(rng: &mut Rng, d: &mut Draft) -> &'static str {
     let i = rng.below(d.events.len());
     let was = d.events[i].0[5];
@@ -290,7 +302,7 @@ fn sizes(rng: &mut Rng, d: &mut Draft) -> &'static str {
             // a value that two bytes of length cannot say
             let i = rng.below(d.events.len());
             d.events[i].1.resize(65_536 + rng.below(300), 7);
-            d.events[i].2 = rng.pick(&[65_535, 65_531, 65_530]);
+            d.events[i].2 = rng.pick(&[65_535, 65_531, 65_530, 65_529]);
             "value-over-65535"
         }
     }

@@ -37,13 +37,28 @@ pub fn whole(rng: &mut Rng, max: usize) -> (String, Vec<Field>) {
         };
         if let Some((name, plans)) = made {
             if let Some(fields) = finish(rng, plans) {
+                let fields = if rng.percent(50) { edition_2(rng, fields) } else { fields };
                 return (name, fields);
             }
         }
     }
 }
 
-/// A whole sheet with exactly `n` events that are not inits, mostly one that some order explains.
+/// The fields as a sheet of edition 2 has them; which of the events that may be either may tear is left to chance.
+fn edition_2(rng: &mut Rng, mut fields: Vec<Field>) -> Vec<Field> {
+    let may_tear = rng.pick(&[0, 30, 50, 100]);
+    fields[0].value[0] = 2;
+    for f in fields.iter_mut().filter(|f| f.tag == 2) {
+        let [_, kind, mode, start, width] = f.value[..5] else { unreachable!("a whole event") };
+        let rule = tear_by_the_rule(kind, mode, start, width);
+        let tear = if mode == U && rng.percent(may_tear) { 0 } else { rule };
+        f.value.insert(5, tear);
+        f.length += 1;
+    }
+    fields
+}
+
+/// A whole sheet of edition 1 with exactly `n` events that are not inits, mostly one that some order explains.
 pub fn sized(rng: &mut Rng, n: usize) -> Vec<u8> {
     loop {
         let plans = replayed(rng, n).1;
@@ -78,6 +93,8 @@ const TEMPLATES: &[Shape] = &[
     ("l10", 1, &[(1, READ, SC, X, &[3]), (1, WRITE, SC, Y, &[]), (2, READ, SC, Y, &[1]), (2, WRITE, SC, X, &[])], &[]),
     ("l11", 1, &[(1, READ, U, X, &[1]), (1, WRITE, U, X, &[])], &[]),
     ("l12", 2, &[(1, WRITE, U, X, &[]), (2, WRITE, U, X, &[]), (3, READ, U, X, &[0, 1])], &[]),
+    // at edition 2 the tear bytes decide whether 25 comes, and which two writers it names
+    ("l12three", 4, &[(1, WRITE, U, X, &[]), (2, WRITE, U, X, &[]), (3, WRITE, U, X, &[]), (4, READ, U, X, &[0, 1, 2])], &[]),
     ("l12sc", 2, &[(1, WRITE, SC, X, &[]), (2, RMW, SC, X, &[I]), (3, READ, U, X, &[0, 1])], &[]),
     ("l14", 1, &[(1, RMW, SC, X, &[I]), (2, RMW, SC, X, &[I])], &[]),
     ("l14chain", 1, &[(1, RMW, SC, X, &[I]), (2, RMW, SC, X, &[0]), (3, RMW, SC, X, &[1])], &[]),

@@ -1,5 +1,5 @@
-//! compare --seed S --count N [--max-events K]: random sheets, the linked judge against the second program.
-//! compare --tables --seed S --count N: random tables, the linked writer and the way back against it.
+//! compare --seed S --count N [--max-events K]: random sheets of both editions, the linked judge against the second program.
+//! compare --tables --seed S --count N: random tables of both, the linked writer and the way back against it.
 
 #[path = "../tests/compare/mod.rs"]
 mod compare;

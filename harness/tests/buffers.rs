@@ -2,6 +2,7 @@
 
 use plimdrong::{judge_with, Answer, Judge, MAX_EVENTS, MAX_SCRATCH};
 use second::random::{case, Rng};
+use second::text::{from_text, to_text};
 
 fn sheet(name: &str) -> Vec<u8> {
     std::fs::read(format!("{}/../examples/litmus/{name}.sheet", env!("CARGO_MANIFEST_DIR"))).unwrap()
@@ -148,9 +149,10 @@ fn arbitrary_bytes() {
             assert!(matches!(answer, Answer::Refused { .. }), "{answer}");
         }
     }
-    // every single byte of a whole sheet changed to every value; every front part of it
-    for name in ["15-markers", "14-two-read-modify-writes"] {
-        let whole = sheet(name);
+    // every single byte of a whole sheet, of either edition, changed to every value; every front part of it
+    let names = ["15-markers", "14-two-read-modify-writes", "12-torn"];
+    let of_2 = |sheet: &[u8]| from_text(&to_text(sheet).replacen("head 1", "head 2", 1)).unwrap();
+    for whole in names.map(sheet).iter().flat_map(|one| [one.clone(), of_2(one)]) {
         for i in 0..whole.len() {
             judge.judge(&whole[..i]);
             let mut changed = whole.clone();

@@ -1,7 +1,7 @@
 //! Two ordinary Rust judges to measure the proved one against; what they answer is compared with the second program.
 //! `same` goes test by test, as the proved judge did before its steps took masks. The one here has the same closure, bars
 //! and search, and tables of masks (events with equal and with overlapping ranges, writers by byte), so that whole sets
-//! replace tests one by one: today the nearer of the two to the proved judge's method.
+//! replace tests one by one: today the nearer of the two to the proved judge's method. Both take sheets of editions 1 and 2.
 
 #![no_std]
 
@@ -61,6 +61,8 @@ fn refused(number: u8, place: usize) -> u64 {
 
 /// What the reader hands over: counts, and where in the sheet things stand.
 struct Read {
+    /// The offset of the data in an event's value: 5, or 6 where a tear byte stands before it.
+    front: usize,
     agents: u8,
     size: u8,
     inits: usize,
@@ -77,6 +79,14 @@ struct Read {
 impl Read {
     fn event<'a>(&self, sheet: &'a [u8], e: usize) -> &'a [u8] {
         &sheet[self.at[e] as usize..]
+    }
+    /// Whether this value's event, of a whole sheet, is tear-free.
+    fn tear_free(&self, event: &[u8]) -> bool {
+        if self.front == 6 {
+            event[5] == 1
+        } else {
+            event[2] == SC || unbroken(event[2], event[3] as usize, event[4] as usize)
+        }
     }
     /// A row's reader, address, writer.
     fn row(&self, sheet: &[u8], i: usize) -> (usize, usize, usize) {
@@ -95,6 +105,11 @@ fn covers(event: &[u8], address: u8) -> bool {
     event[3] <= address && (address as usize) < event[3] as usize + event[4] as usize
 }
 
+/// An unordered access that may be tear-free: a width of 1, 2 or 4 that divides the start. The width is a power of two.
+fn unbroken(mode: u8, start: usize, width: usize) -> bool {
+    mode == UNORDERED && width < 8 && start & (width - 1) == 0
+}
+
 fn read(sheet: &[u8]) -> Result<Read, (u8, usize)> {
     if sheet.len() > MAX_SHEET {
         return Err((1, 0));
@@ -102,8 +117,18 @@ fn read(sheet: &[u8]) -> Result<Read, (u8, usize)> {
     if sheet.is_empty() {
         return Err((3, 0));
     }
-    let mut r =
-        Read { agents: 0, size: 0, inits: 0, events: 0, at: [0; SLOTS], rows_at: 0, rows: 0, pairs_at: 0, pairs: 0 };
+    let mut r = Read {
+        front: 5,
+        agents: 0,
+        size: 0,
+        inits: 0,
+        events: 0,
+        at: [0; SLOTS],
+        rows_at: 0,
+        rows: 0,
+        pairs_at: 0,
+        pairs: 0,
+    };
     let mut last_tag = 0;
     let mut covered = 0u64; // the bytes that inits cover
     let mut reads = false;
@@ -135,15 +160,18 @@ fn read(sheet: &[u8]) -> Result<Read, (u8, usize)> {
                 let &[edition, agents, size] = value else {
                     return Err((4, at));
                 };
-                if edition != 1 || !(1..=8).contains(&agents) || !(1..=64).contains(&size) {
+                if !(1..=2).contains(&edition) || !(1..=8).contains(&agents) || !(1..=64).contains(&size) {
                     return Err((5, at));
                 }
-                (r.agents, r.size) = (agents, size);
+                (r.front, r.agents, r.size) = (4 + edition as usize, agents, size);
             }
             2 => {
-                let [agent, kind, mode, start, width, data @ ..] = value else {
+                let [agent, kind, mode, start, width, ..] = value else {
                     return Err((4, at));
                 };
+                if value.len() < r.front {
+                    return Err((4, at));
+                }
                 let (kind, mode, start, width) = (*kind, *mode, *start as usize, *width as usize);
                 if start + width > r.size as usize {
                     return Err((6, at));
@@ -170,7 +198,14 @@ fn read(sheet: &[u8]) -> Result<Read, (u8, usize)> {
                 if mode != INIT && !(1..=r.agents).contains(agent) {
                     return Err((6, at));
                 }
-                if data.len() != data_needed {
+                if r.front == 6 {
+                    let must = mode == SC && kind != MARKER;
+                    let may = must || unbroken(mode, start, width);
+                    if !(must as u8..=may as u8).contains(&value[5]) {
+                        return Err((6, at));
+                    }
+                }
+                if length != r.front + data_needed {
                     return Err((4, at));
                 }
                 if mode == INIT {
@@ -342,7 +377,7 @@ impl Tables {
             if mode == SC {
                 t.sc |= me;
             }
-            if mode == SC || (mode == UNORDERED && width < 8 && width & (width - 1) == 0 && start & (width - 1) == 0) {
+            if r.tear_free(event) {
                 t.tear_free |= me;
             }
             if kind == WRITE || kind == RMW {
@@ -399,9 +434,9 @@ impl Tables {
         for i in 0..r.rows {
             let (reader, address, writer) = r.row(sheet, i);
             let (read, write) = (r.event(sheet, reader), r.event(sheet, writer));
-            let seen = read[5 + address - read[3] as usize];
+            let seen = read[r.front + address - read[3] as usize];
             let skip = if write[1] == RMW { write[4] as usize } else { 0 };
-            let written = write[5 + skip + address - write[3] as usize];
+            let written = write[r.front + skip + address - write[3] as usize];
             if seen != written {
                 return Some((21, [reader as u8, writer as u8, 255, address as u8]));
             }

@@ -53,13 +53,28 @@ struct Event {
 }
 
 impl Event {
-    fn of(value: &[u8]) -> Event {
+    /// From a value with `front` bytes before its data: the sixth of them is the tear byte.
+    fn of(value: &[u8], front: usize) -> Event {
         let &[agent, kind, mode, start, width, ..] = value else {
             return Event::default();
         };
-        let unbroken = matches!(width, 1 | 2 | 4) && start & (width - 1) == 0;
-        let tear_free = kind != MARKER && (mode == SC || mode == UNORDERED && unbroken);
-        Event { agent, kind, mode, start, width, tear_free }
+        let mut event = Event { agent, kind, mode, start, width, tear_free: false };
+        event.tear_free = if front == 6 { value.get(5) == Some(&1) } else { event.must_not_tear() || event.unbroken() };
+        event
+    }
+    fn must_not_tear(&self) -> bool {
+        self.mode == SC && self.kind != MARKER
+    }
+    fn unbroken(&self) -> bool {
+        self.mode == UNORDERED && matches!(self.width, 1 | 2 | 4) && self.start & (self.width - 1) == 0
+    }
+    /// Whether an event of edition 2 may have this tear byte.
+    fn may_have(&self, tear: u8) -> bool {
+        match tear {
+            0 => !self.must_not_tear(),
+            1 => self.must_not_tear() || self.unbroken(),
+            _ => false,
+        }
     }
     fn reads(&self) -> bool {
         self.kind == READ || self.kind == RMW
@@ -108,6 +123,8 @@ struct Row {
 /// What the reader hands over: counts, and where in the sheet things stand.
 struct Sheet<'a> {
     bytes: &'a [u8],
+    /// How many bytes of an event's value stand before its data.
+    front: usize,
     agents: u8,
     size: u8,
     inits: usize,
@@ -127,7 +144,7 @@ impl<'a> Sheet<'a> {
         &self.bytes[at + 3..at + 3 + length]
     }
     fn event(&self, e: usize) -> Event {
-        Event::of(self.value(self.at[e] as usize))
+        Event::of(self.value(self.at[e] as usize), self.front)
     }
     fn known(&self, e: u8) -> Option<Event> {
         ((e as usize) < self.events).then(|| self.event(e as usize))
@@ -152,6 +169,7 @@ impl<'a> Sheet<'a> {
         }
         let mut x = Sheet {
             bytes,
+            front: 5,
             agents: 0,
             size: 0,
             inits: 0,
@@ -202,26 +220,27 @@ impl<'a> Sheet<'a> {
         let &[edition, agents, size] = value else {
             return Err(4);
         };
-        if edition != 1 || !(1..=8).contains(&agents) || !(1..=64).contains(&size) {
+        if !matches!(edition, 1 | 2) || !(1..=8).contains(&agents) || !(1..=64).contains(&size) {
             return Err(5);
         }
+        self.front = if edition == 2 { 6 } else { 5 };
         (self.agents, self.size) = (agents, size);
         Ok(())
     }
 
     fn add_event(&mut self, at: usize, value: &[u8]) -> Result<(), u8> {
-        if value.len() < 5 {
+        if value.len() < self.front {
             return Err(4);
         }
-        let event = Event::of(value);
-        if !event.formed(self.agents, self.size) {
+        let event = Event::of(value, self.front);
+        if !event.formed(self.agents, self.size) || self.front == 6 && !event.may_have(value[5]) {
             return Err(6);
         }
         let init = event.mode == INIT;
         if init && (self.inits != self.events || (0..self.events).any(|e| event.overlaps(&self.event(e)))) {
             return Err(6);
         }
-        if value.len() != 5 + event.data() {
+        if value.len() != self.front + event.data() {
             return Err(4);
         }
         if if init { self.inits == MAX_INITS } else { self.events - self.inits == MAX_OTHERS } {
@@ -362,9 +381,9 @@ fn broken(sheet: &Sheet, table: &[Event], before: &Before) -> Option<(u8, [u8; 4
     for r in sheet.all_rows() {
         let (reader, writer) = (r.reader as usize, r.writer as usize);
         let (read, write) = (table[reader], table[writer]);
-        let seen = sheet.value(sheet.at[reader] as usize)[5 + (r.address - read.start) as usize];
+        let seen = sheet.value(sheet.at[reader] as usize)[sheet.front + (r.address - read.start) as usize];
         let skip = if write.kind == RMW { write.width as usize } else { 0 };
-        let wrote = sheet.value(sheet.at[writer] as usize)[5 + skip + (r.address - write.start) as usize];
+        let wrote = sheet.value(sheet.at[writer] as usize)[sheet.front + skip + (r.address - write.start) as usize];
         if seen != wrote {
             return Some((21, [r.reader, r.writer, 255, r.address]));
         }

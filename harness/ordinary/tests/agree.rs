@@ -1,9 +1,10 @@
-//! Both ordinary judges against the second program: answer and both buffers.
+//! Both ordinary judges against the second program, over sheets of both editions: answer and both buffers.
 
-use second::random::case;
+use second::random::{case, shown, SHOWN};
 
 #[test]
 fn random_sheets() {
+    let mut seen = std::collections::BTreeSet::new();
     for index in 0..60_000 {
         let c = case(21, index, [4, 6, 9, 16][index as usize % 4]);
         let (mut scratch2, mut order2) = (vec![0xa5; c.scratch], vec![0xa5; c.order]);
@@ -16,5 +17,8 @@ fn random_sheets() {
             assert_eq!(order, order2, "{}", told());
             assert_eq!(scratch, scratch2, "{}", told());
         }
+        seen.extend(shown(&c.sheet, &expected));
     }
+    let missing: Vec<&&str> = SHOWN.iter().filter(|what| !seen.contains(**what)).collect();
+    assert!(missing.is_empty(), "never came: {missing:?}");
 }

@@ -1,48 +1,64 @@
 //! The linked judge against the second program: answer, order, both buffers and the bytes around them.
 
 use plimdrong::{judge_with, Answer};
-use second::random::{case, Case};
+use second::random::{case, shown, Case, SHOWN};
 use second::text::to_text;
+use std::collections::BTreeMap;
 use std::fmt;
 
-/// How often each answer came.
+/// How often each answer came, for sheets of edition 1, of edition 2 and with no such head.
 #[derive(Default)]
 pub struct Tally {
-    refused: [u64; 15],
-    broken: [u64; 6],
-    orderly: u64,
-    unsettled: u64,
+    refused: [[u64; 3]; 15],
+    broken: [[u64; 3]; 6],
+    orderly: [u64; 3],
+    unsettled: [u64; 3],
+    /// What the sheets showed of 02 §4.
+    shown: BTreeMap<&'static str, u64>,
 }
 
 impl Tally {
-    fn count(&mut self, answer: &second::Answer) {
-        match answer {
-            second::Answer::Refused { number, .. } => self.refused[*number as usize] += 1,
-            second::Answer::Broken { number, .. } => self.broken[*number as usize - 21] += 1,
-            second::Answer::Consistent { pair: None, .. } => self.orderly += 1,
-            second::Answer::Consistent { pair: Some(_), .. } => self.unsettled += 1,
+    fn count(&mut self, sheet: &[u8], answer: &second::Answer) {
+        let times = match answer {
+            second::Answer::Refused { number, .. } => &mut self.refused[*number as usize],
+            second::Answer::Broken { number, .. } => &mut self.broken[*number as usize - 21],
+            second::Answer::Consistent { pair: None, .. } => &mut self.orderly,
+            second::Answer::Consistent { pair: Some(_), .. } => &mut self.unsettled,
+        };
+        match sheet {
+            [1, 0, 3, edition @ 1..=2, ..] => times[*edition as usize - 1] += 1,
+            _ => times[2] += 1,
+        }
+        for what in shown(sheet, answer) {
+            *self.shown.entry(what).or_default() += 1;
         }
     }
 
-    fn all(&self) -> Vec<(String, u64)> {
+    fn all(&self) -> Vec<(String, [u64; 3])> {
         let refused = (1..=14).map(|n| (format!("refused {n}"), self.refused[n]));
         let broken = (0..6).map(|n| (format!("broken {}", n + 21), self.broken[n]));
         let consistent = [("consistent orderly", self.orderly), ("consistent unsettled", self.unsettled)];
         refused.chain(broken).chain(consistent.map(|(name, times)| (name.to_string(), times))).collect()
     }
 
-    /// The answers that never came.
+    /// The answers that never came at an edition, and what was never shown of 02 §4.
     pub fn missing(&self) -> Vec<String> {
-        self.all().into_iter().filter(|(_, times)| *times == 0).map(|(name, _)| name).collect()
+        let all = self.all();
+        let of = |e: usize| {
+            all.iter().filter(move |(_, times)| times[e - 1] == 0).map(move |(n, _)| format!("{n}, edition {e}"))
+        };
+        let unshown = SHOWN.iter().filter(|what| !self.shown.contains_key(**what)).map(|what| what.to_string());
+        of(1).chain(of(2)).chain(unshown).collect()
     }
 }
 
 impl fmt::Display for Tally {
     fn fmt(&self, f: &mut fmt::Formatter) -> fmt::Result {
-        for (name, times) in self.all() {
-            writeln!(f, "{name:<21}{times:>10}")?;
+        writeln!(f, "{:<21}{:>10}{:>10}{:>10}", "", "edition 1", "edition 2", "neither")?;
+        for (name, [one, two, neither]) in self.all() {
+            writeln!(f, "{name:<21}{one:>10}{two:>10}{neither:>10}")?;
         }
-        Ok(())
+        SHOWN.iter().try_for_each(|what| writeln!(f, "{what:<41}{:>10}", self.shown.get(what).unwrap_or(&0)))
     }
 }
 
@@ -57,7 +73,7 @@ pub fn random_sheets(seed: u64, count: u64, max: usize) -> Result<Tally, String>
     for index in 0..count {
         let most = if max > 0 { max } else { [5, 6, 6, 7, 6, 9, 6, 6, 5, 16][index as usize % 10] };
         let c = case(seed, index, most);
-        tally.count(&one(&c, index as u8, &mut found, &mut told)?);
+        tally.count(&c.sheet, &one(&c, index as u8, &mut found, &mut told)?);
     }
     Ok(tally)
 }

@@ -2,7 +2,7 @@
 //! crate makes of the same table.
 
 use plimdrong::{table_with, write_with, Buffers, Entry, Event, Head, Pair, Row, Slices, Table};
-use second::random::{case, table_buffers, table_case, Rng};
+use second::random::{case, shown_back, shown_written, table_buffers, table_case, Rng, SHOWN_BACK, SHOWN_WRITTEN};
 use second::table::{Lent, Tabled, Written};
 use second::text::to_text;
 use std::collections::BTreeMap;
@@ -48,14 +48,25 @@ pub fn table_of(l: &[Vec<u8>; 5]) -> Option<Table> {
     })
 }
 
-/// How often each answer came: refusals by number, 15 by the buffer too; 0 is what is not refused.
+/// How often each answer came: refusals by number, 15 by the buffer too; 0 is what is not refused. And what was shown of
+/// 02 §4.
 pub struct Hits {
     what: &'static str,
     must: Vec<(u8, usize)>,
     times: BTreeMap<(u8, usize), u64>,
+    must_show: &'static [&'static str],
+    shown: BTreeMap<&'static str, u64>,
 }
 
 impl Hits {
+    fn new(what: &'static str, must: Vec<(u8, usize)>, must_show: &'static [&'static str]) -> Hits {
+        Hits { what, must, times: BTreeMap::new(), must_show, shown: BTreeMap::new() }
+    }
+
+    fn show(&mut self, all: Vec<&'static str>) {
+        all.into_iter().for_each(|what| *self.shown.entry(what).or_default() += 1);
+    }
+
     fn count(&mut self, number: u8, place: usize) {
         let place = if number == 15 { place } else { 0 };
         *self.times.entry((number, place)).or_default() += 1;
@@ -69,15 +80,18 @@ impl Hits {
         }
     }
 
-    /// The answers that never came.
+    /// The answers that never came, and what was never shown.
     pub fn missing(&self) -> Vec<String> {
-        self.must.iter().filter(|m| !self.times.contains_key(m)).map(|m| self.name(*m)).collect()
+        let answers = self.must.iter().filter(|m| !self.times.contains_key(m)).map(|m| self.name(*m));
+        let unshown = self.must_show.iter().filter(|what| !self.shown.contains_key(**what));
+        answers.chain(unshown.map(|what| what.to_string())).collect()
     }
 }
 
 impl fmt::Display for Hits {
     fn fmt(&self, f: &mut fmt::Formatter) -> fmt::Result {
-        self.times.iter().try_for_each(|(answer, times)| writeln!(f, "{:<21}{times:>10}", self.name(*answer)))
+        self.times.iter().try_for_each(|(answer, times)| writeln!(f, "{:<21}{times:>10}", self.name(*answer)))?;
+        self.shown.iter().try_for_each(|(what, times)| writeln!(f, "{what:<51}{times:>10}"))
     }
 }
 
@@ -89,7 +103,7 @@ fn most(index: u64) -> usize {
 /// Answer and whole buffer, as the second program says; and what the crate makes of the same table.
 pub fn random_tables(seed: u64, count: u64) -> Hits {
     let must = [0, 1, 4, 5, 6, 7, 8, 9, 10, 11, 14, 15].map(|n| (n, 0)).to_vec();
-    let mut hits = Hits { what: "written", must, times: BTreeMap::new() };
+    let mut hits = Hits::new("written", must, SHOWN_WRITTEN);
     let mut rng = Rng::new(seed);
     for index in 0..count {
         let c = table_case(seed, index, most(index));
@@ -103,6 +117,7 @@ pub fn random_tables(seed: u64, count: u64) -> Hits {
             Written::Written { .. } => hits.count(0, 0),
             Written::Refused { number, index } => hits.count(number, index),
         }
+        hits.show(shown_written(&c.lists, c.out, &expected));
         if let Some(table) = table_of(&c.lists) {
             through_the_crate(&c.name, &table, &expected, &found);
         }
@@ -140,7 +155,7 @@ fn through_the_crate(name: &str, table: &Table, expected: &Written, found: &[u8]
 pub fn tables_of_random_sheets(seed: u64, count: u64) -> Hits {
     let refused = (1..=11).chain([14]).map(|n| (n, 0));
     let must = refused.chain((0..5).map(|i| (15, i))).chain([(0, 0)]).collect();
-    let mut hits = Hits { what: "table", must, times: BTreeMap::new() };
+    let mut hits = Hits::new("table", must, SHOWN_BACK);
     let mut rng = Rng::new(seed);
     for index in 0..count {
         let c = case(seed, index, most(index));
@@ -156,6 +171,7 @@ pub fn tables_of_random_sheets(seed: u64, count: u64) -> Hits {
             Tabled::Tabled { .. } => hits.count(0, 0),
             Tabled::Refused { number, place } => hits.count(number, place),
         }
+        hits.show(shown_back(&c.sheet, &expected));
     }
     hits
 }

@@ -11,7 +11,7 @@ mod tables;
 mod whole;
 
 pub use damage::{damaged, Way, WAYS};
-pub use shown::{shown, SHOWN};
+pub use shown::{shown, shown_back, shown_written, SHOWN, SHOWN_BACK, SHOWN_WRITTEN};
 pub use tables::{table_buffers, table_case, table_damaged, table_ways, TableCase};
 pub use whole::{sized, whole};
 

@@ -1,8 +1,9 @@
-//! What a sheet shows of 02 §4, so that a run of random sheets can count it: the tests of an event with its tear byte, and
-//! rule 25 by the tear bytes.
+//! What a sheet shows of 02 §4, and a table for the writer, so that a run of random ones can count it: the tests of an event
+//! with its tear byte, and rule 25 by the tear bytes.
 
 use super::*;
 use crate::judge::Relations;
+use crate::table::{lists, write, Lent, Tabled, Written};
 use crate::Answer;
 
 /// All that [`shown`] can say. A run of random sheets must have seen each.
@@ -123,4 +124,91 @@ fn by_rule_25(sheet: &[u8], answer: &Answer) -> Vec<&'static str> {
         }
     }
     all
+}
+
+/// All that [`shown_written`] can say.
+pub const SHOWN_WRITTEN: &[&str] = &[
+    "edition 2 written",
+    "edition 2 written, may tear where 01's rule says 1",
+    "1 by edition 2's sixth bytes",
+    "15 by edition 2's sixth bytes",
+    "5 for edition 0",
+    "5 for edition 3",
+    "6 at edition 1 by the tear byte",
+    "6 at edition 1 by the tear byte, before 4",
+    "6 at edition 2 by the tear byte 0",
+    "6 at edition 2 by the tear byte 1",
+    "6 at edition 2 by a tear byte over 1",
+    "6 at edition 2 by the tear byte, before 4",
+];
+
+/// What the writer's answer for a table shows of 02 §4; `out` is the length of the buffer lent.
+pub fn shown_written(table: &[Vec<u8>; 5], out: usize, answer: &Written) -> Vec<&'static str> {
+    let again = |table: &[Vec<u8>; 5], out: usize| {
+        let [head, events, data, rows, pairs] = table;
+        write(Lent { head, events, data, rows, pairs }, &mut vec![0; out])
+    };
+    let edition = table[0].first().copied().unwrap_or(0);
+    let mut as_edition_1 = table.clone();
+    if edition == 2 {
+        as_edition_1[0][0] = 1;
+        for e in as_edition_1[1].chunks_exact_mut(8) {
+            e[5] = tear_by_the_rule(e[1], e[2], e[3], e[4]);
+        }
+    }
+    match *answer {
+        Written::Written { .. } if edition == 2 => match as_edition_1[1] == table[1] {
+            true => vec!["edition 2 written"],
+            false => vec!["edition 2 written", "edition 2 written, may tear where 01's rule says 1"],
+        },
+        Written::Refused { number: 5, .. } if edition == 0 => vec!["5 for edition 0"],
+        Written::Refused { number: 5, .. } if edition == 3 => vec!["5 for edition 3"],
+        Written::Refused { number: number @ (1 | 15), .. } if edition == 2 => {
+            match (number, again(&as_edition_1, out)) {
+                (_, Written::Refused { number: other, .. }) if other == number => vec![],
+                (1, _) => vec!["1 by edition 2's sixth bytes"],
+                _ => vec!["15 by edition 2's sixth bytes"],
+            }
+        }
+        Written::Refused { number: 6, index } if matches!(edition, 1 | 2) => {
+            let tear = table[1][8 * index + 5];
+            let with = |byte: u8| {
+                let mut changed = table.clone();
+                changed[1][8 * index + 5] = byte;
+                again(&changed, MAX_SHEET)
+            };
+            let Some(then) = [0, 1].map(with).into_iter().find(|then| then != answer) else { return vec![] };
+            let before_4 = then == Written::Refused { number: 4, index };
+            let mut all = vec![match (edition, tear) {
+                (1, _) => "6 at edition 1 by the tear byte",
+                (_, 0) => "6 at edition 2 by the tear byte 0",
+                (_, 1) => "6 at edition 2 by the tear byte 1",
+                _ => "6 at edition 2 by a tear byte over 1",
+            }];
+            if before_4 && edition == 1 {
+                all.push("6 at edition 1 by the tear byte, before 4");
+            } else if before_4 {
+                all.push("6 at edition 2 by the tear byte, before 4");
+            }
+            all
+        }
+        _ => vec![],
+    }
+}
+
+/// All that [`shown_back`] can say.
+pub const SHOWN_BACK: &[&str] = &["edition 2's table", "edition 2's table, may tear where 01's rule says 1"];
+
+/// What the table of a sheet shows of 02 §4.
+pub fn shown_back(sheet: &[u8], answer: &Tabled) -> Vec<&'static str> {
+    match (answer, lists(sheet)) {
+        (Tabled::Tabled { .. }, Ok([head, events, ..])) if head[0] == 2 => {
+            let by_rule = |e: &[u8]| e[5] == tear_by_the_rule(e[1], e[2], e[3], e[4]);
+            match events.chunks_exact(8).all(by_rule) {
+                true => vec![SHOWN_BACK[0]],
+                false => SHOWN_BACK.to_vec(),
+            }
+        }
+        _ => vec![],
+    }
 }

@@ -24,7 +24,7 @@ pub fn besides(sheet: &[u8], answer: &Answer) -> &'static str {
     match answer {
         Answer::Broken { rule: Rule::Torn { .. } } if sheet[3] == 1 => {
             " The sheet is of edition 1, which is for integer typed arrays only: if one of the three went through a float \
-             array, a Uint8ClampedArray or a DataView, it may tear, and edition 2 can say so."
+             array or a DataView, it may tear, and edition 2 can say so."
         }
         _ => "",
     }

@@ -54,10 +54,17 @@ def fields(sheet):
         at = end
 
 
-def field(f):
+def field(f, edition=1):
     """A field by its constructor; one that has none, as bytes."""
     tag, value = f[0], f[3:]
     if f[1:3] == bytes([0, len(value)]):
+        if tag == 1 and len(value) == 3 and value[0] == 2:
+            return f"head-2 {value[1]} {value[2]}"
+        if tag == 2 and edition == 2:
+            # an event of edition 1 with the tear byte before its data
+            inner = bytes([2, 0, len(value) - 1]) + value[:5] + value[6:] if len(value) >= 6 else b""
+            text = field(inner) if inner else ""
+            return f"tear {value[5]} ({text})" if text and text != listed(inner) else listed(f)
         if tag == 1 and len(value) == 3 and value[0] == 1:
             return f"head {value[1]} {value[2]}"
         if tag == 3 and len(value) == 3:
@@ -93,8 +100,13 @@ def answer(line):
     return f"(Consistent {settled}) ({' ∷ '.join(order.split())} ∷ [])"
 
 
+def edition(sheet):
+    """The edition that its head says, where there is one."""
+    return sheet[3] if len(sheet) > 3 else 1
+
+
 def bytes_of(e):
-    return "example" if e["name"] == "01-example" else "(sheet (" + " ∷ ".join([field(f) for f in fields(e["sheet"])]) + " ∷ []))"
+    return "example" if e["name"] == "01-example" else "(sheet (" + " ∷ ".join([field(f, edition(e["sheet"])) for f in fields(e["sheet"])]) + " ∷ []))"
 
 
 def tables(found):

@@ -8,3 +8,4 @@ pub mod TearLaws
 pub mod WellEventLaws
 pub mod WellWritten
 pub mod ShortLaws
+pub mod CopyLaws

@@ -4,3 +4,4 @@ pub mod Lent
 pub mod Lend
 pub mod Index
 pub mod Place
+pub mod Copy

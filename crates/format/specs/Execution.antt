@@ -1,6 +1,7 @@
 -- An execution: what a sheet describes (01, "What is judged": "events, the write behind each byte read, and extra synchronisation").
 -- `Head`, `Row` and `Pair` are the source's own structs: edition, agents, size; reader, address, writer; first, second.
 --     Execution         head, events, rows, pairs        event x e        event number e
+--     withHead x h      x under another head             atEdition n h    a head of another edition
 --     inits, others     how many events are inits, are not
 --     rowBelow, pairBelow    the orders in which rows and pairs rise
 -- Assumes nothing.
@@ -20,6 +21,12 @@ pub record Execution : Type 0 where
   pub events : List Event
   pub rows : List Row
   pub pairs : List Pair
+
+abbrev pub withHead : Execution → Head → Execution
+withHead x h = record { head = h; events = x .events; rows = x .rows; pairs = x .pairs }
+
+abbrev pub atEdition : ℕ → Head → Head
+atEdition n h = record { edition = n; agents = h .agents; size = h .size }
 
 -- 01: "Events are numbered from 0 as they appear."
 unfoldable pub eventNo : List Event → ℕ → Event

@@ -22,3 +22,4 @@ pub mod Demands
 pub mod Single
 pub mod Litmus
 pub mod Fewer
+pub mod Editions

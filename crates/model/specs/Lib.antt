@@ -13,3 +13,4 @@ pub mod Litmus
 pub mod Further
 pub mod Demands
 pub mod Fewer
+pub mod Editions

@@ -2,6 +2,7 @@
 -- each by one law: proofs/Litmus.antt. The other entries: specs/Further.antt. `example` and the rows of both tables are printed from
 -- examples/litmus/litmus.src by tests/make; the gate compares them.
 --     field, sheet, head, init, read, write, modify, marker, row, pair     the bytes of fields
+--     head-2, tear                                                         of edition 2
 --     Entry                                                                a sheet, the lengths of both buffers, the answer, the order
 --     example, proved                                                      01's whole example; the table
 -- 01: "Event 0 is an init of zeros over the memory. x is byte 0, y byte 1, width 1 unless said. A1 to A3 are agents; events are numbered left to
@@ -9,7 +10,7 @@
 -- Assumes nothing.
 use mathlib.Core.List.{List, [], _∷_, _++_}
 use Prim.Native.Nat.{ℕ}
-use lib.ListN.{length}
+use lib.ListN.{length, take, drop}
 use Rattle.answer.specs.declared.Names.the-variants.{Row as OfRow, Event as OfEvent, Between, Torn, Nobody}
 use Rattle.answer.specs.declared.Settled.the-variants.{Orderly, Unsettled}
 use Rattle.answer.specs.declared.Answer.{Answer}
@@ -46,6 +47,13 @@ modify agent start seen written = field 2 (agent ∷ 3 ∷ 2 ∷ start ∷ lengt
 
 abbrev pub marker : ℕ → List ℕ
 marker agent = field 2 (agent ∷ 4 ∷ 2 ∷ 0 ∷ 0 ∷ [])
+
+-- 02 §4: "Edition 2 adds a sixth byte to each event before the data": of an event of edition 1, its tear byte
+abbrev pub head-2 : ℕ → ℕ → List ℕ
+head-2 agents size = field 1 (2 ∷ agents ∷ size ∷ [])
+
+abbrev pub tear : ℕ → List ℕ → List ℕ
+tear byte event = field 2 (take 5 (drop 3 event) ++ (byte ∷ drop 8 event))
 
 abbrev pub row : ℕ → ℕ → ℕ → List ℕ
 row reader address writer = field 3 (reader ∷ address ∷ writer ∷ [])

@@ -3,16 +3,21 @@ use mathlib.Core.Path.{_≡_, refl, sym, ap, _∙_, subst}
 use mathlib.Core.List.{List}
 use Prim.Native.Nat.{ℕ}
 use native.Mathlib.Omega.{arith}
-use lib.ListN.{take}
-use Rattle.format.specs.Execution.{Execution}
+use lib.ListN.{length, take, drop}
+use lib.Seq.{take-append-seam}
+use Rattle.format.specs.declared.Head.{Head}
+use Rattle.format.specs.Execution.{Execution, withHead, atEdition}
 use Rattle.parse.specs.Parse.{whole, parse}
 use Rattle.parse.proofs.WellSheetLaws.{accepted-well}
 use Rattle.answer.specs.declared.Answer.{Answer}
 use Rattle.answer.specs.Read.{kindIn, placeIn, answerIn}
-use Rattle.answer.proofs.ReadLaws.{answer-in}
+use Rattle.answer.specs.Word.{word, packed}
+use Rattle.answer.proofs.ReadLaws.{answer-in, kind-in, place-in}
 use Rattle.encode.specs.Table.{Table, tableOf}
 use Rattle.encode.specs.Encode.{encode}
 use Rattle.encode.specs.Lend.{Slices, tableIn}
+use Rattle.encode.specs.Copy.{tableAt, slicesAt, copyOf}
+use Rattle.encode.proofs.CopyLaws.{slices-at, copies}
 use Rattle.writer.specs.declared.Written.{Written}
 use Rattle.writer.specs.declared.Written.the-variants.{Sheet}
 use Rattle.writer.specs.Written.{Wrote}
@@ -27,10 +32,11 @@ use Rattle.lend.proofs.Demands.{lends-the-table, refused-word}
 use Rattle.lend.proofs.Demands.{fits-word as fits-lent}
 use Rattle.model.specs.Judged.{Judged}
 use Rattle.model.proofs.FitLaws.{judged-fits}
+use Rattle.model.proofs.Editions.{by-record}
 use Rattle.plimdrong.specs.JudgedWord.{JudgedWord}
 use Rattle.plimdrong.specs.WrittenWord.{WrittenWord}
 use Rattle.plimdrong.specs.TableWord.{TableWord, frontsIn}
-use Rattle.plimdrong.specs.Demands.{WordTells, SameAnswer, WriteTells, WriteThenTable, TableThenWrite}
+use Rattle.plimdrong.specs.Demands.{WordTells, SameAnswer, WriteTells, WriteThenTable, TableThenWrite, SameVerdict, CopyJudged}
 
 read : (s scratch order : List ℕ) (r : ℕ) (scratch′ order′ : List ℕ) (e : JudgedWord s scratch order r scratch′ order′) → answerIn r ≡ e .answer
 read s scratch order r scratch′ order′ e =
@@ -87,3 +93,28 @@ table-then-write s entry exit w t k out out′ r h v =
     let u : Wrote (encode (tableOf (o .execution))) out (v .answer) out′ = subst (λ (d : Table). Wrote (encode d) out (v .answer) out′) (o .back) (v .wrote) in
     let b = writes-back s (o .execution) out (v .answer) out′ (accepted-well s (o .execution) (o .says)) h u in
     (v .word ∙ ap writtenWord (b .0), b .1)
+
+-- ---- a sheet's copy at edition 2
+
+-- two sheets with the same events, rows and pairs
+same-verdict : (s t : List ℕ) (x : Execution) (h : Head) → parse s ≡ whole x → parse t ≡ whole (withHead x h) → SameVerdict s t
+same-verdict s t x h d e scratch order a b p q p′ q′ j k =
+    let w = by-record s t x h (accepted-well s x d) (accepted-well t (withHead x h) e) scratch order (j .answer) (k .answer) p q p′ q′ (j .judged) (k .judged) in
+    (j .word ∙ ap packed (w .0) ∙ sym (k .word), w .1, w .2)
+
+pub copy-judged : CopyJudged
+unfolding tableOf
+copy-judged s entry exit w t k out out′ r h v =
+    let o = lent-table s entry exit w t k in
+    let x = o .execution in
+    let c : List ℕ = copyOf x in
+    let e : parse c ≡ whole (withHead x (atEdition 2 (x .head))) = copies s x (o .says) in
+    let well = accepted-well c (withHead x (atEdition 2 (x .head))) e in
+    let l = well .short in
+    let q : tableIn (slicesAt 2 (frontsIn w exit)) ≡ tableAt 2 (tableOf x) = slices-at 2 (frontsIn w exit) ∙ ap (tableAt 2) (o .back) in
+    let u : Wrote c out (v .answer) out′ = subst (λ (d : Table). Wrote (encode d) out (v .answer) out′) q (v .wrote) in
+    let b = writes-back c (withHead x (atEdition 2 (x .head))) out (v .answer) out′ well (omega arith) u in
+    let n : r ≡ word 5 0 (length c) = v .word ∙ ap writtenWord (b .0) in
+    let i : placeIn r ≡ length c = ap placeIn n ∙ place-in 5 0 (length c) (omega arith) (omega arith) (omega arith) in
+    let f : take (placeIn r) out′ ≡ c = ap (λ (j : ℕ). take j out′) i ∙ ap (take (length c)) (b .1) ∙ take-append-seam c (drop (length c) out) in
+    (ap kindIn n ∙ kind-in 5 0 (length c) (omega arith) (omega arith) (omega arith), subst (SameVerdict s) (sym f) (same-verdict s c x (atEdition 2 (x .head)) (o .says) e))

@@ -152,7 +152,7 @@ fn the_documents_refusals() {
         Answer::from_word(word, &[]).unwrap().to_string()
     };
     let (page, second_edition) = PAGE.split_once("And from its form at edition 2, of 32 bytes:").unwrap();
-    for (page, done, answer) in [
+    let tried = [
         (page, "4,097 bytes of anything instead", said(&[7; 4097])),
         (page, "its last byte removed", said(&one[..29])),
         (page, "its first byte made 05", said(&with(&one, 0, 1, &[5]))),
@@ -193,10 +193,14 @@ fn the_documents_refusals() {
             said(&with(&two, 16, 26, &[2, 0, 6, 1, 1, 2, 0, 1, 0])),
         ),
         (second_edition, "the init's tear byte made 1", said(&with(&two, 14, 15, &[1]))),
-    ] {
+    ];
+    for (page, done, answer) in &tried {
         let row = format!("| {done} | `{answer}` |");
         assert!(page.contains(&row), "the page does not have: {row}");
     }
+    // and each row of the two tables was tried
+    let tables = PAGE.split("| What is done to it | Answer |\n|---|---|\n").skip(1);
+    assert_eq!(tables.map(|t| t.lines().take_while(|l| l.starts_with('|')).count()).sum::<usize>(), tried.len());
 }
 
 fn litmus() -> Vec<PathBuf> {

@@ -503,7 +503,7 @@ fn the_documents_words_at_edition_2(page: &str, lists: [Vec<u8>; 5]) {
         l[2].truncate(1);
         write_with(slices(&l), &mut [0; 32])
     };
-    for (done, word) in [
+    let tried = [
         ("nothing; the buffer has 32 bytes or more", written(&[], 32)),
         ("nothing; the buffer has 31 bytes", written(&[], 31)),
         ("the read's tear byte made 1", written(&[made(read_tear, 1)], 32)),
@@ -518,8 +518,11 @@ fn the_documents_words_at_edition_2(page: &str, lists: [Vec<u8>; 5]) {
         ("the data has one byte", one_data_byte()),
         ("the sheet, with buffers of 3, 16, 2, 3 and 0 bytes or more", tabled(&sheet, [3, 16, 2, 3, 0])),
         ("the sheet without its last byte", tabled(&sheet[..31], [0; 5])),
-    ] {
+    ];
+    for (done, word) in tried {
         let row = format!("| {done} | `{word:x}` |");
         assert!(page.contains(&row), "the page does not have: {row}");
     }
+    // and each row of the table was tried
+    assert_eq!(page.lines().filter(|l| l.starts_with("| ") && l.ends_with("` |")).count(), tried.len());
 }

@@ -24,7 +24,7 @@
  *    2 field cut short                               the field's tag
  *    3 tag unknown, falling, a second head, no head; the empty sheet      its tag, or 0
  *    4 length wrong for the field                    the field's tag
- *    5, 6, 7, 8 content of head, event, row, pair    the field's tag
+ *    5, 6, 7, 8 content of head, event, row, pair    the field's tag   (6: an edition 2 event's tear byte too)
  *    9 fifth init, 17th other event, 33rd pair       the field's tag
  *   10 no event reads                                the sheet's length
  *   14 an agent that the head promises has no event  the sheet's length
@@ -49,12 +49,27 @@
  * THE SCRATCH needs, with n events that are not inits, the larger of 1 and 2^n / 8 bytes; what it holds on entry does
  * not matter. The buffers overlap neither each other nor the sheet. A length may be 0; no pointer may be null.
  *
+ * EDITIONS. A sheet is of edition 1 or 2: its fourth byte says which, any other number is refused 5. At edition 2 each
+ * event has a tear byte before its data, 0 may tear, 1 tear-free; rule 25 goes by it. At edition 1 there is none, and an
+ * unordered event of width 1, 2 or 4 whose start is divisible by its width is taken for tear-free. All else is the same,
+ * and so are all sizes below.
+ * Which to record with: edition 2 says every execution. The tear byte is
+ *   1 for accesses by Atomics (they are sc), and for unordered ones through Int8Array, Uint8Array, Int16Array,
+ *     Uint16Array, Int32Array, Uint32Array
+ *   0 for unordered ones through Float32Array, Float64Array, Uint8ClampedArray, BigInt64Array, BigUint64Array, for every
+ *     one through a DataView, for inits and for markers.
+ * Edition 1 is for integer typed arrays only: it is right where all unordered accesses went through them. Of float and
+ * DataView accesses it says nothing, and may answer 25 where ECMA-262 allows what was seen.
+ *
  * THE WRITER'S TABLE: what a sheet says, as five byte slices.
  *   head     edition, agents, memory size. What a shorter slice lacks counts as 0; a longer one's rest is not looked at.
  *   events   8 bytes each: agent, kind, mode, start, width, tear, and the number of its data bytes, the most significant
- *            byte first. Tear is 1 where the event is tear-free and 0 where it is not; at edition 1 it must be 1 for sc
- *            reads, writes and read-modify-writes and for unordered ones of width 1, 2 or 4 whose start is divisible by
- *            the width, and 0 for all else, inits and markers among it (6 otherwise).
+ *            byte first. Tear is 1 where the event is tear-free and 0 where it may tear (6 otherwise):
+ *                                                                             at edition 1     at edition 2
+ *              sc reads, writes and read-modify-writes                        1                1
+ *              unordered ones of width 1, 2 or 4, start divisible by it       1                0 or 1
+ *              all else, inits and markers among it                           0                0
+ *            At edition 2 it stands in the sheet, at edition 1 it does not.
  *   data     the data bytes of all events, one event after another. An event whose bytes are not all there has those
  *            that are. Bytes behind the last event's are not looked at.
  *   rows     3 bytes each: reader, address, writer.
@@ -76,7 +91,9 @@
  *   PLIMDRONG_REFUSED, kind 1: all five buffers are unchanged. The number and the place are those by which
  *     plimdrong_judge refuses the sheet, 1 to 11 and 14. Then 15: a buffer is too short, and PLIMDRONG_PLACE(word) says
  *     which is the first such: 0 head, 1 events, 2 data, 3 rows, 4 pairs.
- * What is written from that table is the sheet again, and the table of a written sheet is the table that was lent.
+ * The tear bytes are the sheet's at edition 2, and as the table above has them at edition 1. What is written from that
+ * table is the sheet again, and the table of a written sheet is the table that was lent. A table of an edition 1 sheet
+ * becomes one of edition 2 when its head's first byte is made 2.
  */
 #ifndef PLIMDRONG_H
 #define PLIMDRONG_H

@@ -1,5 +1,6 @@
 //! draw SHEET [OUT.svg]: a picture of a sheet and its verdict. A column for each agent, events from top to bottom in the order that was reported
 //! (in the sheet's order where there is none), a line from each writer to its reader, dashed lines for pairs; what the verdict names is red.
+//! An unordered access of edition 2 that may tear although the rule of edition 1 would have it tear-free says so.
 //! A refused sheet has no picture: its line is printed. The events are read by the second program; the verdict is the proved judge's.
 
 use plimdrong::{Answer, Judge};
@@ -32,6 +33,13 @@ fn access(a: &Access) -> String {
         Kind::ReadModifyWrite => format!("sc {at}: {} to {}", bytes(&a.seen), bytes(&a.written)),
         Kind::Marker => "marker".to_string(),
     }
+}
+
+// What no width and no start tells: that an unordered access may tear although the rule would give 1.
+fn may_tear(e: &Event) -> bool {
+    e.accesses.iter().any(|a| {
+        a.mode == Mode::Unordered && !a.tear_free && matches!(a.width, 1 | 2 | 4) && a.start.is_multiple_of(a.width)
+    })
 }
 
 fn named(answer: &Answer) -> Vec<usize> {
@@ -107,12 +115,19 @@ fn draw(sheet: &[u8]) -> Result<String, String> {
                 x.rows.iter().filter(|q| (q.writer, q.reader) == (w, e)).map(|q| q.address.to_string()).collect();
             label.push(format!("{} from {w}", bytes.join(" ")));
         }
-        if !label.is_empty() {
+        let below: Vec<String> = [
+            may_tear(&x.events[e]).then(|| "may tear".to_string()),
+            (!label.is_empty()).then(|| format!("byte {}", label.join(", "))),
+        ]
+        .into_iter()
+        .flatten()
+        .collect();
+        if !below.is_empty() {
             put(format!(
-                "<text x='{}' y='{}' fill='#555' font-size='10'>byte {}</text>\n",
+                "<text x='{}' y='{}' fill='#555' font-size='10'>{}</text>\n",
                 left + 8,
                 top + 27,
-                label.join(", ")
+                below.join("; ")
             ));
         }
     }

@@ -42,6 +42,10 @@
 //! assert_eq!(judge(&sheet).to_string(), "consistent orderly then 0 1");
 //! ```
 //!
+//! A sheet is of edition 1 or 2 ([`Head::edition`]). Edition 2 says of each event whether it may tear, as an access through a
+//! Float32Array or a DataView may ([`Event::may_tear`]), and can always be recorded with; edition 1 is for integer typed
+//! arrays only.
+//!
 //! What is proved is the functions behind [`judge_with`], [`write_with`] and [`table_with`]. Trusted are the compiler's
 //! back end, this crate's three `unsafe` calls, its laying out of a table and its reading of the 64-bit answers.
 

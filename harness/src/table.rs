@@ -67,6 +67,9 @@ pub struct Table {
 /// ```
 #[derive(Clone, Copy, Debug, PartialEq, Eq)]
 pub struct Head {
+    /// 1 or 2. Edition 2 says of each event whether it may tear, and can always be recorded with. Edition 1 does not: it is
+    /// for executions all of whose unordered accesses went through integer typed arrays, and takes them for what
+    /// [`Event::tear_by_the_rule`] gives. A table of edition 1 becomes one of edition 2 when this is made 2.
     pub edition: u8,
     /// How many; each has an event.
     pub agents: u8,
@@ -81,7 +84,7 @@ impl Default for Head {
 }
 
 /// An event. [`Event::init`], [`Event::read`], [`Event::write`], [`Event::rmw`] and [`Event::marker`] fill in kind, width
-/// and tear byte.
+/// and tear byte; [`Event::may_tear`] is for an access through a Float32Array, a DataView and their like.
 #[derive(Clone, Debug, PartialEq, Eq)]
 pub struct Event {
     /// 0 for an init.
@@ -94,8 +97,9 @@ pub struct Event {
     pub start: u8,
     /// How many bytes.
     pub width: u8,
-    /// 1 where the event is tear-free, 0 where it is not. A sheet of edition 1 does not hold it; it must be what
-    /// [`Event::tear_by_the_rule`] gives.
+    /// 1 where the event is tear-free, 0 where it may tear. At edition 2 it stands in the sheet: 1 for sc reads, writes and
+    /// read-modify-writes, 0 or 1 for unordered ones of width 1, 2 or 4 whose start is divisible by the width, 0 for all
+    /// else. A sheet of edition 1 does not hold it; it must be what [`Event::tear_by_the_rule`] gives.
     pub tear: u8,
     /// What was seen, then what was written.
     pub data: Vec<u8>,
@@ -139,7 +143,8 @@ impl Event {
     }
 
     /// A read that saw these bytes. The width is their number (255 where there are more, which the writer refuses); the
-    /// tear byte is by the rule. The same holds for the other events.
+    /// tear byte is by the rule, so an unordered one is taken for an access through an integer typed array: see
+    /// [`Event::may_tear`]. The same holds for the other events.
     ///
     /// ```
     /// use plimdrong::{mode, Event};
@@ -190,8 +195,43 @@ impl Event {
         Event { agent, kind, mode, start, width, tear, data }
     }
 
+    /// The same access, which may tear: its tear byte is 0. For edition 2.
+    ///
+    /// ECMA-262 has an unordered access tear-free where it goes through an Int8Array, Uint8Array, Int16Array, Uint16Array,
+    /// Int32Array or Uint32Array. All other unordered ones may tear: through a Uint8ClampedArray, a Float32Array, a
+    /// Float64Array, a BigInt64Array, and every one through a DataView. An sc event is tear-free, and the writer refuses one
+    /// that is said to tear (6).
+    ///
+    /// ```
+    /// use plimdrong::{judge, mode, Event, Head, Row, Table};
+    ///
+    /// // two agents set an element of a Float32Array to 1 and to -1.9999999, a third one reads it and sees half of each
+    /// let read = Event::read(3, mode::UNORDERED, 0, &[0, 0, 0xff, 0xbf]).may_tear();
+    /// assert_eq!(read.to_string(), "A3 read unordered may-tear at 0: 00 00 ff bf");
+    /// let row = |address, writer| Row { reader: 2, address, writer };
+    /// let mut table = Table {
+    ///     head: Head { edition: 2, agents: 3, memory: 4 },
+    ///     events: vec![
+    ///         Event::write(1, mode::UNORDERED, 0, &[0, 0, 0x80, 0x3f]).may_tear(),
+    ///         Event::write(2, mode::UNORDERED, 0, &[0xff, 0xff, 0xff, 0xbf]).may_tear(),
+    ///         read,
+    ///     ],
+    ///     rows: vec![row(0, 0), row(1, 0), row(2, 1), row(3, 1)],
+    ///     pairs: vec![],
+    /// };
+    /// assert_eq!(judge(&table.sheet().unwrap()).to_string(), "consistent unsettled 0 1 then 0 1 2");
+    ///
+    /// // through an Int32Array they are tear-free
+    /// table.events.iter_mut().for_each(|e| e.tear = 1);
+    /// assert_eq!(judge(&table.sheet().unwrap()).to_string(), "broken 25 2 0 1 -");
+    /// ```
+    pub fn may_tear(self) -> Event {
+        Event { tear: 0, ..self }
+    }
+
     /// The tear byte of an event of edition 1: 1 for an sc read, write or read-modify-write and for an unordered one of
-    /// width 1, 2 or 4 whose start is divisible by its width, 0 for all else.
+    /// width 1, 2 or 4 whose start is divisible by its width, 0 for all else. It is right for integer typed arrays only:
+    /// nothing here tells through which view an access went. Edition 2 takes it too, beside [`Event::may_tear`].
     ///
     /// ```
     /// use plimdrong::{kind, mode, Event};
@@ -266,7 +306,9 @@ extern "C" {
 ///
 /// Kind 5: written, the low 32 bits are the sheet's length; what stands behind it is unchanged. Kind 1: refused, by the
 /// number that the reader would give (1, 4 to 11, 14), the low 32 bits are the index of the entry at fault in its own list
-/// (0 for 1, 5, 10 and 14); or 15 at 0, where the buffer is shorter than the sheet. The buffer is then unchanged.
+/// (0 for 1, 5, 10 and 14); or 15 at 0, where the buffer is shorter than the sheet. The buffer is then unchanged. The head's
+/// edition decides how the sheet is laid out: at edition 2 an event's tear byte stands before its data, at edition 1 it does
+/// not stand there.
 ///
 /// ```
 /// use plimdrong::{write_with, Slices};
@@ -279,6 +321,11 @@ extern "C" {
 /// assert_eq!((out[..6].to_vec(), out[30]), (vec![1, 0, 3, 1, 1, 1], 9));
 /// assert_eq!(write_with(table, &mut out[..29]), (1 << 40) + (15 << 32));
 /// assert_eq!(write_with(Slices { rows: &[], ..table }, &mut out), (1 << 40) + (11 << 32) + 1);
+///
+/// // edition 2: a byte more in each event
+/// let mut out = [9; 33];
+/// assert_eq!(write_with(Slices { head: &[2, 1, 1], ..table }, &mut out), (5 << 40) + 32);
+/// assert_eq!(out[16..26], [2, 0, 7, 1, 1, 1, 0, 1, 1, 0]);
 /// ```
 pub fn write_with(table: Slices, out: &mut [u8]) -> u64 {
     // SAFETY: the function reads only the five slices and writes only within `out`, which the borrows give it for the call,
@@ -306,7 +353,8 @@ pub fn write_with(table: Slices, out: &mut [u8]) -> u64 {
 /// Kind 14: the number is how many events there are, the low 32 bits are pairs * 2^24 + rows * 2^12 + data bytes; each
 /// buffer holds its list from its front on, and what stands behind is unchanged. Kind 1: refused, as the judge refuses the
 /// sheet (1 to 11, 14, with the place in the sheet); or 15, the place being the number of the first buffer that is too
-/// short: 0 head, 1 events, 2 data, 3 rows, 4 pairs. All buffers are then unchanged.
+/// short: 0 head, 1 events, 2 data, 3 rows, 4 pairs. All buffers are then unchanged. The tear bytes are those of the sheet
+/// at edition 2, those of the rule at edition 1.
 ///
 /// ```
 /// use plimdrong::{table_with, Buffers};
@@ -464,8 +512,8 @@ pub enum Entry {
 /// assert_eq!(wrong.refusal().meaning, "The head's content is wrong.");
 /// assert_eq!(
 ///     wrong.to_string(),
-///     "the head (head 1 9 1): The head's content is wrong. The edition is 1, agents are 1 to 8, the memory has 1 to 64 \
-///      bytes."
+///     "the head (head 1 9 1): The head's content is wrong. The edition is 1 or 2, agents are 1 to 8, the memory has 1 to \
+///      64 bytes."
 /// );
 /// ```
 #[derive(Clone, Debug, PartialEq, Eq)]
@@ -521,11 +569,7 @@ fn detail(table: &Table, number: u8, index: usize) -> Option<String> {
             };
             Some(format!("It has {}, and {asked} are asked for.", bytes(e.data.len())))
         }
-        6 => {
-            let e = &table.events[index];
-            let tear = Event::tear_by_the_rule(e.kind, e.mode, e.start, e.width);
-            (e.tear != tear).then(|| format!("Its tear byte is {}, and the rule gives {tear}.", e.tear))
-        }
+        6 => tear_fault(table.head.edition, &table.events[index]),
         11 => {
             let e = &table.events[index];
             let has_row = |a: usize| table.rows.iter().any(|r| (r.reader as usize, r.address as usize) == (index, a));
@@ -538,6 +582,33 @@ fn detail(table: &Table, number: u8, index: usize) -> Option<String> {
         }
         _ => None,
     }
+}
+
+/// What is wrong with the tear byte of an event, if anything is, and why. Of a kind or a mode that there is not nothing is
+/// said: they are at fault themselves.
+fn tear_fault(edition: u8, e: &Event) -> Option<String> {
+    let rule = Event::tear_by_the_rule(e.kind, e.mode, e.start, e.width);
+    let (fits, must) = match (edition, e.kind, e.mode) {
+        (2, kind::MARKER, _) => (e.tear == 0, "at edition 2 a marker's is 0"),
+        (2, _, mode::INIT) => (e.tear == 0, "at edition 2 an init's is 0"),
+        (2, kind::READ | kind::WRITE | kind::RMW, mode::SC) => {
+            (e.tear == 1, "at edition 2 that of an sc read, write or read-modify-write is 1: it is tear-free")
+        }
+        (2, kind::READ | kind::WRITE, mode::UNORDERED) if rule == 1 => {
+            (e.tear <= 1, "at edition 2 that of such an unordered access is 0, may tear, or 1, tear-free")
+        }
+        (2, kind::READ | kind::WRITE, mode::UNORDERED) => (
+            e.tear == 0,
+            "at edition 2 that of an unordered access is 0 unless its width is 1, 2 or 4 and divides its start",
+        ),
+        (2, _, _) => (true, ""),
+        _ if (e.tear, rule, e.mode) == (0, 1, mode::UNORDERED) => {
+            (false, "edition 1's rule gives 1: an unordered access that may tear needs edition 2")
+        }
+        _ if rule == 1 => (e.tear == 1, "edition 1's rule gives 1"),
+        _ => (e.tear == 0, "edition 1's rule gives 0"),
+    };
+    (!fits).then(|| format!("Its tear byte is {}, and {must}.", e.tear))
 }
 
 fn bytes(n: usize) -> String {

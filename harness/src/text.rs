@@ -49,21 +49,23 @@ impl Table {
     /// The table of a text.
     ///
     /// ```text
-    /// head 1 2 2                        edition, agents, memory size
-    /// 0 init at 0: 00 00                number (it may be left out), start, bytes written
-    /// 1 A1 write unordered at 0: 01     agent, kind, mode, start, bytes written
-    /// 2 A1 read sc at 1: 00             bytes seen
-    /// 3 A2 rmw sc at 0: 00 -> 01        seen, then written
-    /// 4 A2 marker
-    /// 5 event 2 9 1 0 4 1: 00 11        agent, kind, mode, start, width, tear byte; data
-    /// row 2 1 0                         reader, address, writer
-    /// pair 4 5                          marker, marker
+    /// head 2 2 2                                 edition, agents, memory size
+    /// 0 init at 0: 00 00                         number (it may be left out), start, bytes written
+    /// 1 A1 write unordered at 0: 01              agent, kind, mode, start, bytes written
+    /// 2 A1 read sc at 1: 00                      bytes seen
+    /// 3 A1 read unordered may-tear at 0: 01 00   an unordered access that may tear
+    /// 4 A2 rmw sc at 0: 00 -> 01                 seen, then written
+    /// 5 A2 marker
+    /// 6 event 2 9 1 0 4 1: 00 11                 agent, kind, mode, start, width, tear byte; data
+    /// row 2 1 0                                  reader, address, writer
+    /// pair 5 6                                   marker, marker
     /// ```
     ///
-    /// `#` begins a comment; an empty line is none. The width of an event is the number of its bytes, its tear byte is by
-    /// the rule; the line `event` says both, for what the others cannot say. Numbers are decimal, 0 to 255; data bytes are
-    /// two hexadecimal digits each. Events, rows and pairs are listed as they stand; lines of different lists may be
-    /// mixed, so that a row can stand behind its read. Every table has a text (`Display`), and parsing it gives the table.
+    /// `#` begins a comment; an empty line is none. The width of an event is the number of its bytes. Its tear byte is by
+    /// the rule ([`Event::tear_by_the_rule`]), and 0 where `may-tear` stands behind `unordered`, whatever the head's edition
+    /// is. The line `event` says both, for what the others cannot say. Numbers are decimal, 0 to 255; data bytes are two
+    /// hexadecimal digits each. Events, rows and pairs are listed as they stand; lines of different lists may be mixed, so
+    /// that a row can stand behind its read. Every table has a text (`Display`), and parsing it gives the table.
     ///
     /// ```
     /// use plimdrong::Table;
@@ -75,6 +77,9 @@ impl Table {
     /// let wrong = Table::parse("head 1 1 1\nA1 wirte sc at 0: 01").unwrap_err();
     /// assert_eq!(wrong.line, 2);
     /// assert_eq!(wrong.to_string(), "line 2: 'wirte' is no kind: write read, write, rmw or marker");
+    ///
+    /// let table = Table::parse("head 2 1 2\nA1 write unordered may-tear at 0: 01 02").unwrap();
+    /// assert_eq!(table.events[0].tear, 0);
     /// ```
     pub fn parse(text: &str) -> Result<Table, ParseError> {
         Table::parse_with_lines(text).map(|(table, _)| table)
@@ -219,6 +224,27 @@ fn named(names: &[(&str, u8)], word: &str) -> Option<u8> {
     names.iter().find(|(name, _)| *name == word).map(|&(_, number)| number)
 }
 
+const MAY_TEAR: &str = "may-tear";
+
+/// Whether the words of an event say that it may tear: its fourth, behind `unordered`.
+fn may_tear(words: &[&str]) -> Result<bool, Fault> {
+    match words.iter().position(|word| *word == MAY_TEAR) {
+        None => Ok(false),
+        Some(3) if words[2] == "unordered" => Ok(true),
+        Some(_) if words[0] == "init" => fault("may-tear in an init", "leave it out: the tear byte of an init is 0"),
+        Some(_) if words.get(1) == Some(&"marker") => {
+            fault("may-tear in a marker", "leave it out: a marker touches no byte, and its tear byte is 0")
+        }
+        Some(_) if words.get(2) == Some(&"sc") => {
+            fault("may-tear in an sc event", "leave it out: sc reads, writes and read-modify-writes are tear-free")
+        }
+        Some(_) => fault(
+            "may-tear stands in the wrong place",
+            "write it behind unordered, as `A1 read unordered may-tear at 0: 01 02`",
+        ),
+    }
+}
+
 /// An event without its number.
 fn parsed_event(entry: &str) -> Result<Event, Fault> {
     let (what, data) = match entry.split_once(':') {
@@ -233,6 +259,7 @@ fn parsed_event(entry: &str) -> Result<Event, Fault> {
         let [agent, kind, mode, start, width, tear] = numbers(&rest.join(" "), "an event", EVENT)?;
         return Ok(Event { agent, kind, mode, start, width, tear, data: hex(data.unwrap_or(""))? });
     }
+    let may_tear = may_tear(&words)?;
     if first == "init" {
         let start = start(rest, "init at 0: 00 00")?;
         let written = some_data(data, kind::WRITE)?;
@@ -264,11 +291,13 @@ fn parsed_event(entry: &str) -> Result<Event, Fault> {
     let Some(mode) = named(&MODES, mode) else {
         return fault(format!("{} is no mode", quoted(mode)), "write unordered or sc");
     };
+    let rest = if may_tear { &rest[1..] } else { rest };
     let start = start(rest, &example)?;
     let bytes = some_data(data, kind)?;
     let width = if kind == kind::RMW { bytes.len() / 2 } else { bytes.len() } as u8;
     let tear = Event::tear_by_the_rule(kind, mode, start, width);
-    Ok(Event { agent, kind, mode, start, width, tear, data: bytes })
+    let event = Event { agent, kind, mode, start, width, tear, data: bytes };
+    Ok(if may_tear { event.may_tear() } else { event })
 }
 
 /// `at START`, and nothing else.
@@ -341,6 +370,9 @@ impl fmt::Display for Event {
         let w = *width as usize;
         let name = |names: &[(&'static str, u8)], number: u8| names.iter().find(|n| n.1 == number).map(|n| n.0);
         let by_the_rule = *tear == Event::tear_by_the_rule(*kind, *mode, *start, *width);
+        // an unordered access that may tear although the rule gives 1
+        let may_tear = !by_the_rule && *mode == mode::UNORDERED && *tear == 0;
+        let word = if may_tear { " may-tear" } else { "" };
         match (name(&KINDS, *kind), name(&MODES, *mode)) {
             (Some("marker"), Some("sc")) if by_the_rule && *start == 0 && w == 0 && data.is_empty() => {
                 write!(f, "A{agent} marker")
@@ -348,11 +380,11 @@ impl fmt::Display for Event {
             (Some("write"), Some("init")) if by_the_rule && *agent == 0 && w > 0 && data.len() == w => {
                 write!(f, "init at {start}:{}", Hex(data))
             }
-            (Some("rmw"), Some(mode)) if by_the_rule && w > 0 && data.len() == 2 * w => {
-                write!(f, "A{agent} rmw {mode} at {start}:{} ->{}", Hex(&data[..w]), Hex(&data[w..]))
+            (Some("rmw"), Some(mode)) if (by_the_rule || may_tear) && w > 0 && data.len() == 2 * w => {
+                write!(f, "A{agent} rmw {mode}{word} at {start}:{} ->{}", Hex(&data[..w]), Hex(&data[w..]))
             }
-            (Some(kind @ ("read" | "write")), Some(mode)) if by_the_rule && w > 0 && data.len() == w => {
-                write!(f, "A{agent} {kind} {mode} at {start}:{}", Hex(data))
+            (Some(kind @ ("read" | "write")), Some(mode)) if (by_the_rule || may_tear) && w > 0 && data.len() == w => {
+                write!(f, "A{agent} {kind} {mode}{word} at {start}:{}", Hex(data))
             }
             _ => write!(f, "event {agent} {kind} {mode} {start} {width} {tear}:{}", Hex(data)),
         }
@@ -421,6 +453,20 @@ mod tests {
             ("A1 marker: 00", "line 1: a marker has no mode, no start and no data: write `A1 marker`"),
             ("A2 read", "line 1: there is no mode: write unordered or sc behind the kind, as `A2 write sc at 0: 01`"),
             ("A1 read seqcst at 0: 00", "line 1: 'seqcst' is no mode: write unordered or sc"),
+            ("A1 read sc may-tear at 0: 00", "line 1: may-tear in an sc event: leave it out: sc reads, writes and read-modify-writes are tear-free"),
+            ("A1 rmw sc may-tear at 0: 00 -> 01", "line 1: may-tear in an sc event: leave it out: sc reads, writes and read-modify-writes are tear-free"),
+            ("A1 read sc at 0 may-tear: 00", "line 1: may-tear in an sc event: leave it out: sc reads, writes and read-modify-writes are tear-free"),
+            ("init may-tear at 0: 00", "line 1: may-tear in an init: leave it out: the tear byte of an init is 0"),
+            ("A1 marker may-tear", "line 1: may-tear in a marker: leave it out: a marker touches no byte, and its tear byte is 0"),
+            ("A1 read may-tear at 0: 00", "line 1: may-tear stands in the wrong place: write it behind unordered, as `A1 read unordered may-tear at 0: 01 02`"),
+            ("A1 may-tear read unordered at 0: 00", "line 1: may-tear stands in the wrong place: write it behind unordered, as `A1 read unordered may-tear at 0: 01 02`"),
+            ("A1 read unordered at 0 may-tear: 00", "line 1: may-tear stands in the wrong place: write it behind unordered, as `A1 read unordered may-tear at 0: 01 02`"),
+            ("A1 write init may-tear at 0: 00", "line 1: may-tear stands in the wrong place: write it behind unordered, as `A1 read unordered may-tear at 0: 01 02`"),
+            ("may-tear", "line 1: may-tear stands in the wrong place: write it behind unordered, as `A1 read unordered may-tear at 0: 01 02`"),
+            ("A1 read unordered may-tear may-tear at 0: 00", "line 1: 'may-tear' stands where at is expected: write it as `A1 write sc at 0: 01`"),
+            ("A1 read unordered may-tear: 00", "line 1: there is no start: write at and the first address, as `A1 write sc at 0: 01`"),
+            ("A1 read unordered maytear at 0: 00", "line 1: 'maytear' stands where at is expected: write it as `A1 write sc at 0: 01`"),
+            ("B1 read unordered may-tear at 0: 00", "line 1: 'B1' begins no line: begin with head, row, pair, init, event, or an agent as A1; # begins a comment"),
             ("A1 read sc", "line 1: there is no start: write at and the first address, as `A1 write sc at 0: 01`"),
             ("A1 read sc at: 00", "line 1: no start follows at: write the first address, as `A1 write sc at 0: 01`"),
             ("A1 read sc at 0 00", "line 1: '00' follows the start: write a colon there, as `A1 write sc at 0: 01`"),
@@ -476,8 +522,20 @@ mod tests {
             (read.clone(), "A1 read unordered at 0: 01 02"),
             (Event { kind: 9, ..read.clone() }, "event 1 9 1 0 2 1: 01 02"),
             (Event { mode: 3, ..read.clone() }, "event 1 1 3 0 2 1: 01 02"),
-            (Event { tear: 0, ..read.clone() }, "event 1 1 1 0 2 0: 01 02"),
+            (read.clone().may_tear(), "A1 read unordered may-tear at 0: 01 02"),
             (Event { tear: 2, ..read.clone() }, "event 1 1 1 0 2 2: 01 02"),
+            (Event { tear: 255, ..read.clone() }, "event 1 1 1 0 2 255: 01 02"),
+            // the rule gives 0: the word says nothing more, and 1 has no short line
+            (Event::read(1, mode::UNORDERED, 1, &[1, 2]).may_tear(), "A1 read unordered at 1: 01 02"),
+            (Event { tear: 1, ..Event::read(1, mode::UNORDERED, 1, &[1, 2]) }, "event 1 1 1 1 2 1: 01 02"),
+            (
+                Event::write(1, mode::UNORDERED, 0, &[7; 8]).may_tear(),
+                "A1 write unordered at 0: 07 07 07 07 07 07 07 07",
+            ),
+            (Event::write(2, mode::SC, 0, &[1]).may_tear(), "event 2 2 2 0 1 0: 01"),
+            (Event::rmw(2, 0, &[1], &[2]).may_tear(), "event 2 3 2 0 1 0: 01 02"),
+            (Event { width: 1, ..read.clone().may_tear() }, "event 1 1 1 0 1 0: 01 02"),
+            (Event { mode: 1, ..Event::rmw(1, 0, &[1], &[2]).may_tear() }, "A1 rmw unordered may-tear at 0: 01 -> 02"),
             (Event { width: 1, ..read.clone() }, "event 1 1 1 0 1 1: 01 02"),
             (Event { width: 0, tear: 0, data: vec![], ..read.clone() }, "event 1 1 1 0 0 0:"),
             (Event { agent: 0, ..read.clone() }, "A0 read unordered at 0: 01 02"),

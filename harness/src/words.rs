@@ -25,18 +25,20 @@ pub fn refusal(number: u8) -> Option<Refusal> {
         ),
         4 => (
             "A field's length does not fit it.",
-            "A head and a row have 3 bytes, a pair 2; an event 5 and its data: the width for a read or a write, twice \
-             the width for a read-modify-write, none for a marker.",
+            "A head and a row have 3 bytes, a pair 2; an event 5 (at edition 2, with its tear byte, 6) and its data: the \
+             width for a read or a write, twice the width for a read-modify-write, none for a marker.",
         ),
         5 => (
             "The head's content is wrong.",
-            "The edition is 1, agents are 1 to 8, the memory has 1 to 64 bytes.",
+            "The edition is 1 or 2, agents are 1 to 8, the memory has 1 to 64 bytes.",
         ),
         6 => (
             "An event's content is wrong.",
             "Check agent, kind, mode, start and width: inits (agent 0, write, mode 0) come first and are disjoint; \
              others have an agent up to the head's count, width 1, 2, 4 or 8, in mode 2 a start divisible by the width; \
-             a read-modify-write has mode 2; a marker has mode 2, start 0, width 0; all end within the memory.",
+             a read-modify-write has mode 2; a marker has mode 2, start 0, width 0; all end within the memory. At edition 2 \
+             the tear byte is 1 for reads, writes and read-modify-writes in mode 2, 0 or 1 for those in mode 1 of width 1, 2 \
+             or 4 whose start is divisible by the width, 0 for all else.",
         ),
         7 => (
             "A row's content is wrong.",

@@ -95,6 +95,114 @@ fn bits_from_48_up() {
     }
 }
 
+#[allow(dead_code)]
+#[path = "../examples/explain.rs"]
+mod explain;
+
+/// What `explain` says besides: of 25 at edition 1, what edition 1 is for.
+#[test]
+fn explained_by_the_edition() {
+    let torn = |edition: u8| {
+        let text = format!(
+            "head {edition} 3 2\nA1 write unordered at 0: 01 01\nA2 write unordered at 0: 02 02\n\
+             A3 read unordered at 0: 01 02\nrow 2 0 0\nrow 2 1 1"
+        );
+        plimdrong::Table::parse(&text).unwrap().sheet().unwrap()
+    };
+    let besides = |sheet: &[u8]| explain::besides(sheet, &judge(sheet));
+    assert!(besides(&torn(1)).starts_with(" The sheet is of edition 1, which is for integer typed arrays only: "));
+    assert_eq!(judge(&torn(2)).to_string(), "broken 25 2 0 1 -");
+    for sheet in [&torn(2)[..], &[], &[1, 0, 3, 1, 1, 1]] {
+        assert_eq!(besides(sheet), "");
+    }
+}
+
+const PAGE: &str = include_str!("../../docs/SHEET.md");
+
+/// The two examples of docs/SHEET.md, "The format", as they are drawn: each line that begins with a place has bytes.
+fn drawn_examples() -> [Vec<u8>; 2] {
+    let drawn = PAGE.split("```text\n").filter(|b| b.starts_with("place  0 ")).map(|block| {
+        let mut sheet = vec![];
+        for line in block.split("```").next().unwrap().lines() {
+            let mut words = line.split_whitespace();
+            if words.next() == Some("place") {
+                assert_eq!(words.next().unwrap(), sheet.len().to_string(), "{line}");
+                sheet.extend(words.map_while(|w| u8::from_str_radix(w, 16).ok().filter(|_| w.len() == 2)));
+            }
+        }
+        sheet
+    });
+    drawn.collect::<Vec<_>>().try_into().unwrap()
+}
+
+/// docs/SHEET.md: the drawn bytes are those of the examples; what is done to them under "Refusals" gets the answer said.
+#[test]
+fn the_documents_refusals() {
+    let [one, two] = drawn_examples();
+    assert_eq!(one, std::fs::read(concat!(env!("CARGO_MANIFEST_DIR"), "/../examples/first.sheet")).unwrap());
+    let text = "head 2 1 1\ninit at 0: 00\nA1 read unordered may-tear at 0: 00\nrow 1 0 0";
+    assert_eq!(two, second::text::from_text(text).unwrap());
+    assert_eq!((one.len(), two.len()), (30, 32));
+
+    // bytes from, up to, and what comes in their place
+    let with = |sheet: &[u8], from: usize, to: usize, bytes: &[u8]| [&sheet[..from], bytes, &sheet[to..]].concat();
+    let said = |sheet: &[u8]| judge(sheet).to_string();
+    let lent = |sheet: &[u8], scratch: usize, order: usize| {
+        let word = plimdrong::judge_with(sheet, &mut vec![0; scratch], &mut vec![255; order]);
+        Answer::from_word(word, &[]).unwrap().to_string()
+    };
+    let (page, second_edition) = PAGE.split_once("And from its form at edition 2, of 32 bytes:").unwrap();
+    let tried = [
+        (page, "4,097 bytes of anything instead", said(&[7; 4097])),
+        (page, "its last byte removed", said(&one[..29])),
+        (page, "its first byte made 05", said(&with(&one, 0, 1, &[5]))),
+        (page, "its head made `01 00 02 01 01`", said(&with(&one, 0, 6, &[1, 0, 2, 1, 1]))),
+        (page, "9 agents: its head made `01 00 03 01 09 01`", said(&with(&one, 4, 5, &[9]))),
+        (page, "the read's agent made 2", said(&with(&one, 18, 19, &[2]))),
+        (page, "the row's writer made 1, the reader itself", said(&with(&one, 29, 30, &[1]))),
+        (
+            page,
+            "`04 00 02 00 01` added: a pair of events that are no markers",
+            said(&with(&one, 30, 30, &[4, 0, 2, 0, 1])),
+        ),
+        (page, "the first six bytes alone", said(&one[..6])),
+        (page, "2 agents: its head made `01 00 03 01 02 01`", said(&with(&one, 4, 5, &[2]))),
+        (page, "the row removed", said(&one[..24])),
+        (page, "judged with no scratch", lent(&one, 0, 2)),
+        (page, "judged with an order buffer of one byte", lent(&one, 1, 1)),
+        (page, "its edition made 2: the events lack a byte", said(&with(&one, 3, 4, &[2]))),
+        (second_edition, "its edition made 3, which is none", said(&with(&two, 3, 4, &[3]))),
+        (second_edition, "its edition made 1: the events have a byte too many", said(&with(&two, 3, 4, &[1]))),
+        (
+            second_edition,
+            "the read cut to `02 00 05 01 01 01 00 01`, five bytes of value",
+            said(&with(&two, 16, 26, &[2, 0, 5, 1, 1, 1, 0, 1])),
+        ),
+        (
+            second_edition,
+            "the read cut to `02 00 06 01 01 01 00 01 00`, no data",
+            said(&with(&two, 16, 26, &[2, 0, 6, 1, 1, 1, 0, 1, 0])),
+        ),
+        (second_edition, "the read's tear byte made 1", said(&with(&two, 24, 25, &[1]))),
+        (second_edition, "the read's tear byte made 2", said(&with(&two, 24, 25, &[2]))),
+        (second_edition, "the read made sc, its tear byte still 0", said(&with(&two, 21, 22, &[2]))),
+        (second_edition, "the read made sc, its tear byte made 1", said(&with(&two, 21, 25, &[2, 0, 1, 1]))),
+        (
+            second_edition,
+            "the read made sc and cut to `02 00 06 01 01 02 00 01 00`: the tear byte comes before the length",
+            said(&with(&two, 16, 26, &[2, 0, 6, 1, 1, 2, 0, 1, 0])),
+        ),
+        (second_edition, "the init's tear byte made 1", said(&with(&two, 14, 15, &[1]))),
+    ];
+    for (page, done, answer) in &tried {
+        let row = format!("| {done} | `{answer}` |");
+        assert!(page.contains(&row), "the page does not have: {row}");
+    }
+    // and each row of the two tables was tried
+    let tables = PAGE.split("| What is done to it | Answer |\n|---|---|\n").skip(1);
+    assert_eq!(tables.map(|t| t.lines().take_while(|l| l.starts_with('|')).count()).sum::<usize>(), tried.len());
+}
+
 fn litmus() -> Vec<PathBuf> {
     let dir = concat!(env!("CARGO_MANIFEST_DIR"), "/../examples/litmus");
     let files = std::fs::read_dir(dir).unwrap().map(|f| f.unwrap().path());

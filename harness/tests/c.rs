@@ -140,7 +140,10 @@ fn write() {
         assert!(out.status.success());
         let said = String::from_utf8(out.stdout).unwrap();
         let expected = "written 30\ntable 2 events 2 data 1 rows 0 pairs\nrefused 11 index 1\nrefused 15 index 0\n\
-                        refused 15 buffer 3\nrefused 2 at 24\n";
+                        refused 15 buffer 3\nrefused 2 at 24\n\
+                        edition 2 written 62, tear byte 0, kind 3 number 1\n\
+                        edition 2 written 62, tear byte 1, kind 2 number 25\n\
+                        refused 6 index 3\nrefused 6 index 0\nrefused 6 index 1\n";
         assert_eq!(said, expected, "{standard}");
     }
 }

@@ -100,6 +100,69 @@ fn stored_sheets_there_and_back() {
     }
 }
 
+/// Both editions give the same record: a stored sheet of edition 1, at edition 2 with the tear bytes that the rule gave,
+/// is a byte an event longer, gets the same verdict, and comes back.
+#[test]
+fn stored_sheets_at_edition_2() {
+    let dir = concat!(env!("CARGO_MANIFEST_DIR"), "/../examples/litmus");
+    let (mut same, mut verdicts) = (0, std::collections::BTreeSet::new());
+    for file in std::fs::read_dir(dir).unwrap().map(|f| f.unwrap().path()) {
+        let sheet = std::fs::read(&file).unwrap();
+        let Some(table) = Table::of(&sheet).ok().filter(|t| t.head.edition == 1) else { continue };
+        let name = file.display();
+        let second = Table { head: Head { edition: 2, ..table.head }, ..table.clone() };
+        let longer = second.sheet().unwrap_or_else(|wrong| panic!("{name}: {wrong}"));
+        assert_eq!(longer.len(), sheet.len() + table.events.len(), "{name}");
+        assert_eq!(judge(&longer), judge(&sheet), "{name}");
+        assert_eq!(Table::of(&longer), Ok(second), "{name}");
+        verdicts.insert(judge(&sheet).to_string()[..9].to_string());
+        same += 1;
+    }
+    assert!(same >= 40, "{same}");
+    assert!(verdicts.contains("broken 25"), "{verdicts:?}");
+}
+
+/// What an access may do at edition 2 it may do at edition 1 only where the rule gives it.
+#[test]
+fn accesses_that_may_tear() {
+    let torn = |tears: [u8; 3]| {
+        let mut table = Table::parse(
+            "head 2 3 2\n init at 0: 00 00\n A1 write unordered at 0: 01 01\n A2 write unordered at 0: 02 02\n \
+             A3 read unordered at 0: 01 02\n row 3 0 1\n row 3 1 2",
+        )
+        .unwrap();
+        for (event, tear) in table.events[1..].iter_mut().zip(tears) {
+            if tear == 0 {
+                *event = event.clone().may_tear();
+            }
+        }
+        table
+    };
+    for bits in 0..8u8 {
+        let tears = [bits & 1, bits >> 1 & 1, bits >> 2 & 1];
+        let table = torn(tears);
+        let sheet = table.sheet().unwrap();
+        // the tear byte of event i is the byte before its two data bytes
+        assert_eq!([sheet[25], sheet[36], sheet[47]], tears);
+        let expected = if bits == 7 { "broken 25 3 1 2 -" } else { "consistent unsettled 1 2 then 0 1 2 3" };
+        assert_eq!(judge(&sheet).to_string(), expected, "{tears:?}");
+        assert_eq!(Table::of(&sheet).as_ref(), Ok(&table));
+        let text = table.to_string();
+        assert_eq!(text.matches("may-tear").count(), tears.iter().filter(|t| **t == 0).count(), "{text}");
+        assert_eq!(Table::parse(&text).as_ref(), Ok(&table));
+        assert_eq!(second::text::from_text(&text).as_ref(), Ok(&sheet), "{text}");
+        // edition 1 is refused at the first event that may tear
+        let first = Table { head: Head { edition: 1, ..table.head }, ..table };
+        match tears.iter().position(|t| *t == 0) {
+            Some(i) => {
+                let wrong = first.sheet().unwrap_err();
+                assert_eq!((wrong.number, wrong.entry, wrong.index), (6, Entry::Event, 1 + i));
+            }
+            None => assert_eq!(judge(&first.sheet().unwrap()).to_string(), expected),
+        }
+    }
+}
+
 /// Texts of the tool `sheets` that say what a table can say are texts of tables, of damaged sheets too.
 #[test]
 fn texts_of_the_second_program() {
@@ -137,7 +200,11 @@ fn refusals_in_words() {
         assert!(said.starts_with(words_begin), "{said}");
     };
     let events = example.split_once('\n').unwrap().1;
-    begins(&format!("head 2 1 1\n{events}"), "the head (head 2 1 1): The head's content is wrong. The edition is 1,");
+    begins(
+        &format!("head 3 1 1\n{events}"),
+        "the head (head 3 1 1): The head's content is wrong. The edition is 1 or 2,",
+    );
+    assert_eq!(words(&format!("head 2 1 2\n{events}")), "written");
     begins(
         &format!("head 1 2 2\n{events}"),
         "the table: An agent that the head promises has no event. Agent 2 has none. ",
@@ -151,10 +218,65 @@ fn refusals_in_words() {
         "head 1 1 2\nA1 read sc at 0: 00 00\npair 0 0",
         "pair 0 (pair 0 0): A pair's content is wrong. Both are markers, of different agents, ",
     );
-    begins(
-        "head 1 1 2\nevent 1 1 1 0 2 0: 00 00",
-        "event 0 (event 1 1 1 0 2 0: 00 00): An event's content is wrong. Its tear byte is 0, and the rule gives 1. Check ",
-    );
+    // the tear byte: what it is, what it must be, and why
+    for (edition, event, said) in [
+        (
+            1,
+            "A1 read unordered may-tear at 0: 00 00",
+            "0, and edition 1's rule gives 1: an unordered access that may tear needs edition 2",
+        ),
+        (1, "event 1 1 1 0 2 2: 00 00", "2, and edition 1's rule gives 1"),
+        (1, "event 1 1 2 0 2 0: 00 00", "0, and edition 1's rule gives 1"),
+        (1, "event 1 1 1 1 2 1: 00 00", "1, and edition 1's rule gives 0"),
+        (1, "event 0 2 0 0 2 1: 00 00", "1, and edition 1's rule gives 0"),
+        (1, "event 1 4 2 0 0 1:", "1, and edition 1's rule gives 0"),
+        (
+            2,
+            "event 1 1 1 0 2 2: 00 00",
+            "2, and at edition 2 that of such an unordered access is 0, may tear, or 1, tear-free",
+        ),
+        (
+            2,
+            "event 1 1 2 0 2 0: 00 00",
+            "0, and at edition 2 that of an sc read, write or read-modify-write is 1: it is tear-free",
+        ),
+        (
+            2,
+            "event 1 3 2 0 1 0: 00 00",
+            "0, and at edition 2 that of an sc read, write or read-modify-write is 1: it is tear-free",
+        ),
+        (
+            2,
+            "event 1 2 1 1 2 1: 00 00",
+            "1, and at edition 2 that of an unordered access is 0 unless its width is 1, 2 or 4 and divides its start",
+        ),
+        (
+            2,
+            "event 1 2 1 0 8 1: 00 00 00 00 00 00 00 00",
+            "1, and at edition 2 that of an unordered access is 0 unless its width is 1, 2 or 4 and divides its start",
+        ),
+        (2, "event 0 2 0 0 2 1: 00 00", "1, and at edition 2 an init's is 0"),
+        (2, "event 1 4 2 0 0 1:", "1, and at edition 2 a marker's is 0"),
+    ] {
+        begins(
+            &format!("head {edition} 1 8\n{event}"),
+            &format!("event 0 ({event}): An event's content is wrong. Its tear byte is {said}. Check agent, kind, "),
+        );
+    }
+    // where the tear byte is right nothing is said of it, nor where kind or mode is at fault
+    for (edition, event) in [
+        (1, "A9 read unordered at 0: 00 00"),
+        (2, "A9 read unordered may-tear at 0: 00 00"),
+        (2, "A9 read unordered at 0: 00 00"),
+        (2, "event 1 9 1 0 2 7: 00 00"),
+        (2, "event 1 1 3 0 2 7: 00 00"),
+        (2, "A1 rmw unordered may-tear at 0: 00 -> 01"),
+    ] {
+        begins(
+            &format!("head {edition} 1 8\n{event}"),
+            &format!("event 0 ({event}): An event's content is wrong. Check agent, kind, mode, start and width: "),
+        );
+    }
     begins(
         "head 1 1 2\nevent 1 1 1 0 2 1: 00",
         "event 0 (event 1 1 1 0 2 1: 00): Its data has the wrong length. It has 1 data byte, and 2 are asked for. A read ",
@@ -267,20 +389,27 @@ fn the_documents_texts() {
     assert!(tables >= 3 && refused >= 12, "{tables} tables, {refused} error lines");
 }
 
-/// docs/SHEET.md, "The writer's table": what is done to the example's table, and the word that comes.
-#[test]
-fn the_documents_words() {
-    let section = section(PAGE, "The writer's table");
-    // the five slices as the page draws them
-    let drawn = section.split("```text\n").nth(1).unwrap().split("```").next().unwrap();
+/// The five slices of a table as the page draws them.
+fn drawn(block: &str) -> [Vec<u8>; 5] {
     let mut lists: [Vec<u8>; 5] = Default::default();
     let mut at = 0;
-    for line in drawn.lines() {
+    for line in block.lines() {
         let (name, rest) = line.split_at(line.len().min(9));
         at = ["head", "events", "data", "rows", "pairs"].iter().position(|n| *n == name.trim()).unwrap_or(at);
         let digits = rest.split("  #").next().unwrap();
         lists[at].extend(second::text::from_hex(digits).unwrap());
     }
+    lists
+}
+
+/// docs/SHEET.md, "The writer's table": what is done to the example's table, and the word that comes.
+#[test]
+fn the_documents_words() {
+    let section = section(PAGE, "The writer's table");
+    let (section, second_edition) = section.split_once("of the 32-byte example of edition 2:").unwrap();
+    let mut blocks = section.split("```text\n").skip(1).map(|b| drawn(b.split("```").next().unwrap()));
+    let lists = blocks.next().unwrap();
+    the_documents_words_at_edition_2(second_edition, blocks.next().unwrap());
     let sheet =
         Table::parse("head 1 1 1\ninit at 0: 00\nA1 read unordered at 0: 00\nrow 1 0 0").unwrap().sheet().unwrap();
     assert_eq!(second::table::lists(&sheet).unwrap(), lists);
@@ -347,4 +476,53 @@ fn the_documents_words() {
         let row = format!("| {done} | `{word:x}` |");
         assert!(section.contains(&row), "the page does not have: {row}");
     }
+}
+
+fn the_documents_words_at_edition_2(page: &str, lists: [Vec<u8>; 5]) {
+    let text = "head 2 1 1\ninit at 0: 00\nA1 read unordered may-tear at 0: 00\nrow 1 0 0";
+    let sheet = Table::parse(text).unwrap().sheet().unwrap();
+    assert_eq!(second::table::lists(&sheet).unwrap(), lists);
+    // the places of the head's edition, of the init's and of the read's bytes in the slices
+    let written = |changes: &[(usize, usize, u8)], out: usize| {
+        let mut l = lists.clone();
+        changes.iter().for_each(|&(list, at, byte)| l[list][at] = byte);
+        write_with(slices(&l), &mut vec![0; out])
+    };
+    let edition = |byte: u8| (0, 0, byte);
+    let (init_tear, read_mode, read_width, read_tear) = ((1, 5), (1, 10), (1, 12), (1, 13));
+    let made = |(list, at): (usize, usize), byte: u8| (list, at, byte);
+    let tabled = |sheet: &[u8], lengths: [usize; 5]| {
+        let mut b = lengths.map(|n| vec![0; n]);
+        let [head, events, data, rows, pairs] = b.each_mut().map(|b| &mut b[..]);
+        let word = table_with(sheet, Buffers { head, events, data, rows, pairs });
+        assert!(word >> 40 != 14 || b == lists);
+        word
+    };
+    let one_data_byte = || {
+        let mut l = lists.clone();
+        l[2].truncate(1);
+        write_with(slices(&l), &mut [0; 32])
+    };
+    let tried = [
+        ("nothing; the buffer has 32 bytes or more", written(&[], 32)),
+        ("nothing; the buffer has 31 bytes", written(&[], 31)),
+        ("the read's tear byte made 1", written(&[made(read_tear, 1)], 32)),
+        ("the read's tear byte made 2", written(&[made(read_tear, 2)], 32)),
+        ("the init's tear byte made 1", written(&[made(init_tear, 1)], 32)),
+        ("the read made sc, its tear byte still 0", written(&[made(read_mode, 2)], 32)),
+        ("the read made sc, its tear byte made 1", written(&[made(read_mode, 2), made(read_tear, 1)], 32)),
+        ("the read's width made 8, its tear byte made 1", written(&[made(read_width, 8), made(read_tear, 1)], 32)),
+        ("the edition made 1, the read's tear byte still 0", written(&[edition(1)], 32)),
+        ("the edition made 1, the read's tear byte made 1", written(&[edition(1), made(read_tear, 1)], 32)),
+        ("the edition made 3", written(&[edition(3)], 32)),
+        ("the data has one byte", one_data_byte()),
+        ("the sheet, with buffers of 3, 16, 2, 3 and 0 bytes or more", tabled(&sheet, [3, 16, 2, 3, 0])),
+        ("the sheet without its last byte", tabled(&sheet[..31], [0; 5])),
+    ];
+    for (done, word) in tried {
+        let row = format!("| {done} | `{word:x}` |");
+        assert!(page.contains(&row), "the page does not have: {row}");
+    }
+    // and each row of the table was tried
+    assert_eq!(page.lines().filter(|l| l.starts_with("| ") && l.ends_with("` |")).count(), tried.len());
 }

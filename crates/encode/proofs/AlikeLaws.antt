@@ -46,10 +46,10 @@ spread agent a bytes =
     record {
       agent = agent;
       accesses = record {
-            shape = a;
-            seen = cond (reads a) (take (a .width) bytes) [];
-            written = cond (eqb (a .kind) 2) (take (a .width) bytes) (cond (eqb (a .kind) 3) (take (a .width) (drop (a .width) bytes)) []);
-          }
+        shape = a;
+        seen = cond (reads a) (take (a .width) bytes) [];
+        written = cond (eqb (a .kind) 2) (take (a .width) bytes) (cond (eqb (a .kind) 3) (take (a .width) (drop (a .width) bytes)) []);
+      }
           ∷ [];
     }
 

@@ -1,6 +1,7 @@
 -- The laws of specs/Place.antt: the index that `indexOf` counts is the one that a refusal names.
 --     same-fuel, same-field, same-run     the fields of a tag that stand before a place
 --     index-run                           of an entry of a list: its index
+--     short-index                         the index of what a refusal names
 --     index-below : an index fits where the sheet's length does
 --     refused-at : parse (encode t) ≡ refused n p → Names t n p (indexOf (encode t) n p)
 -- Assumes nothing.
@@ -197,7 +198,7 @@ module _ (t : Table) (z : length (encode t) ≤ maxBytes) where
   of-pair n p (inl e) = rw e refl
   of-pair n p (inr e) = rw e refl
 
-  short-index : (n p i : ℕ) → Names t n p i → indexOf (encode t) n p ≡ i
+  pub short-index : (n p i : ℕ) → Names t n p i → indexOf (encode t) n p ≡ i
   unfolding indexOf noEntry _or_
   short-index n p i too-long = refl
   short-index n p i at-head = refl

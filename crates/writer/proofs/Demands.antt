@@ -24,14 +24,16 @@ use Rattle.encode.specs.Index.{indexOf}
 use Rattle.encode.specs.Place.{OfEvent, OfPair, Names, too-long, at-head, none-reads, no-event, at-event, at-row, at-pair}
 use Rattle.encode.proofs.WrittenBack.{written-back}
 use Rattle.encode.proofs.ReadBack.{read-back}
-use Rattle.encode.proofs.PlaceLaws.{refused-at, index-below}
+use Rattle.encode.specs.Copy.{tableAt, Alike, refused-alike, whole-alike}
+use Rattle.encode.proofs.PlaceLaws.{short-index, refused-at, index-below}
+use Rattle.encode.proofs.AlikeLaws.{copy-long, copy-alike}
 use Rattle.encode.proofs.TearLaws.{tear-refused}
 use Rattle.encode.proofs.ShortLaws.{well-written}
 use Rattle.writer.specs.declared.Written.{Written}
 use Rattle.writer.specs.declared.Written.the-variants.{Refused, Sheet}
 use Rattle.writer.specs.Written.{toldBy, told, left, Wrote}
 use Rattle.writer.specs.Word.{writtenWord, writtenIn}
-use Rattle.writer.specs.Demands.{Agree, ReadsBack, WrittenBack, WritesBack, WritesExactly, Why, by-reader, no-room, Refuses, Numbers, RoomEnough, TearRefused, FitsWord}
+use Rattle.writer.specs.Demands.{Agree, ReadsBack, WrittenBack, WritesBack, WritesExactly, Why, by-reader, no-room, Refuses, Numbers, RoomEnough, TearRefused, SameTold, both-refused, both-written, CopyTold, FitsWord}
 
 pub agree : Agree
 agree s entry r q f g a b =
@@ -140,6 +142,33 @@ room-enough t entry i exit h w = go (refuses t entry 15 i exit w .0) refl
 
 pub tears : TearRefused
 tears h events d e n = tear-refused h events d e n
+
+-- ---- two editions
+
+module _ (t : Table) (one : t .head .edition ≡ 1) (len′ : length (encode (tableAt 2 t)) ≤ maxBytes) (room room′ : ℕ) (fits : maxBytes ≤ room) (fits′ : maxBytes ≤ room′) where
+  abbrev u : Table
+  u = tableAt 2 t
+
+  len : length (encode t) ≤ maxBytes
+  len = let l = copy-long t one in omega arith
+
+  told-alike : (p q : Parsed) → Alike t u p q → SameTold (length (t .events)) (toldBy (encode t) room p) (toldBy (encode u) room′ q)
+  told-alike p q (refused-alike {n} {p = p₁} {q = q₁} {i} a b) =
+      let e : indexOf (encode t) n p₁ ≡ i = short-index t len n p₁ i a in
+      let f : indexOf (encode u) n q₁ ≡ i = short-index u len′ n q₁ i b in
+      subst (λ (j : ℕ). SameTold (length (t .events)) (Refused n j) (Refused n (indexOf (encode u) n q₁))) (sym e)
+      (subst (λ (j : ℕ). SameTold (length (t .events)) (Refused n i) (Refused n j)) (sym f) (both-refused n i))
+  told-alike p q (whole-alike x) =
+      let e : ltb room (length (encode t)) ≡ false = le-ltb room (length (encode t)) (let l = len in omega arith) in
+      let f : ltb room′ (length (encode u)) ≡ false = le-ltb room′ (length (encode u)) (omega arith) in
+      rw (e, f, copy-long t one) (both-written (length (encode t)))
+
+pub copy-told : CopyTold
+unfolding told
+copy-told t one rule len′ entry entry′ r r′ exit exit′ fits fits′ w w′ =
+    subst (λ (a : Written). SameTold (length (t .events)) a r′) (sym (w .answer))
+    (subst (λ (b : Written). SameTold (length (t .events)) (told (encode t) (length entry)) b) (sym (w′ .answer))
+    (told-alike t one len′ (length entry) (length entry′) fits fits′ (parse (encode t)) (parse (encode (tableAt 2 t))) (copy-alike t one rule len′)))
 
 -- ---- the word
 

@@ -1,4 +1,4 @@
--- What 02 §2 promises of the writer beyond its contract, over `Wrote`, which `write` ensures, for all tables. Proved in proofs/Demands.antt.
+-- What 02 §2 and §4 promise of the writer beyond its contract, over `Wrote`, which `write` ensures, for all tables. Proved in proofs/Demands.antt.
 --     Agree          any two answers for one table and one buffer are the same, and leave the same
 --     ReadsBack      "Reading what was written gives the table back"
 --     WrittenBack    writing what was read gives the same bytes: of any bytes that the reader accepts
@@ -9,12 +9,14 @@
 --     Numbers        so a refusal is 1, 4 to 11, 14 or 15: never 2 or 3
 --     RoomEnough     a buffer of 4,096 bytes is never too short
 --     TearRefused    02 §4: "at edition 1 it refuses, 6, a tear byte other than 01's rule gives": whatever else is wrong with the event
+--     CopyTold       02 §4: a table of edition 1 whose tear bytes are by 01's rule, and the same at edition 2, get the same answer: refused by one number at
+--                    one index, or written, the second sheet a byte longer for each event
 --     FitsWord       every answer fits the exported word, and is read back from it
 -- Assumes nothing.
 use mathlib.Core.Path.{_≡_}
 use mathlib.Core.Logic.{_⊎_, _↔_}
 use mathlib.Core.List.{List, _++_}
-use Prim.Native.Nat.{ℕ, _<_, _≤_}
+use Prim.Native.Nat.{ℕ, _+_, _<_, _≤_}
 use lib.ListN.{length, take, drop}
 use Rattle.format.specs.declared.Head.{Head}
 use Rattle.format.specs.Limits.{maxBytes}
@@ -27,6 +29,7 @@ use Rattle.parse.specs.WellSheet.{WellSheet}
 use Rattle.encode.specs.Table.{Description, Table, tableOf}
 use Rattle.encode.specs.Encode.{eventValue, encode}
 use Rattle.encode.specs.Place.{Names}
+use Rattle.encode.specs.Copy.{tableAt, ByTheRule}
 use Rattle.writer.specs.declared.Written.{Written}
 use Rattle.writer.specs.declared.Written.the-variants.{Refused, Sheet}
 use Rattle.writer.specs.Written.{Wrote}
@@ -68,6 +71,16 @@ RoomEnough = (t : Table) (entry : List ℕ) (i : ℕ) (exit : List ℕ) → maxB
 abbrev pub TearRefused : Type 0
 TearRefused = (h : Head) (events : List Event) (d : Description) → h .edition ≡ 1 → (d .tear ≡ tearOf (d .kind) (d .mode) (d .start) (d .width) → ⊥)
     → eventFault h events (eventValue (h .edition) d) ≡ 6
+
+pub data SameTold (events : ℕ) : Written → Written → Type 0 where
+  both-refused : (n i : ℕ) → SameTold events (Refused n i) (Refused n i)
+  both-written : (n : ℕ) → SameTold events (Sheet n) (Sheet (n + events))
+
+-- given room, and as long as the sheet of edition 2 is not too long (1)
+abbrev pub CopyTold : Type 0
+CopyTold = (t : Table) → t .head .edition ≡ 1 → ByTheRule t → length (encode (tableAt 2 t)) ≤ maxBytes
+    → (entry entry′ : List ℕ) (r r′ : Written) (exit exit′ : List ℕ) → maxBytes ≤ length entry → maxBytes ≤ length entry′
+    → Wrote (encode t) entry r exit → Wrote (encode (tableAt 2 t)) entry′ r′ exit′ → SameTold (length (t .events)) r r′
 
 abbrev pub FitsWord : Type 0
 FitsWord = (s entry : List ℕ) (r : Written) (exit : List ℕ) → Wrote s entry r exit → writtenIn (writtenWord r) ≡ r

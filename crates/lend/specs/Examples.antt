@@ -8,7 +8,7 @@ use Prim.Native.Nat.{ℕ}
 use lib.ListN.{take, replicate}
 use Rattle.basis.specs.Test.{each}
 use Rattle.parse.specs.Parse.{parse}
-use Rattle.parse.specs.Examples.{example}
+use Rattle.parse.specs.Examples.{example, example-2}
 use Rattle.encode.specs.Lend.{Slices, five}
 use Rattle.lend.specs.declared.Lent.{Lent}
 use Rattle.lend.specs.declared.Lent.the-variants.{Refused, Table}
@@ -42,6 +42,13 @@ examples =
       entry = nines 4 17 3 3 0;
       says = Table 2 2 1 0;
       exit = five (1 ∷ 1 ∷ 1 ∷ 9 ∷ []) (0 ∷ 2 ∷ 0 ∷ 0 ∷ 1 ∷ 0 ∷ 0 ∷ 1 ∷ 1 ∷ 1 ∷ 1 ∷ 0 ∷ 1 ∷ 1 ∷ 0 ∷ 1 ∷ 9 ∷ []) (0 ∷ 0 ∷ 9 ∷ []) (1 ∷ 0 ∷ 0 ∷ []) [];
+    }
+    -- 02 §4: at edition 2 the tear byte is the sheet's: a read that may tear
+    ∷ record {
+      bytes = example-2 0;
+      entry = nines 3 16 2 4 1;
+      says = Table 2 2 1 0;
+      exit = five (2 ∷ 1 ∷ 1 ∷ []) (0 ∷ 2 ∷ 0 ∷ 0 ∷ 1 ∷ 0 ∷ 0 ∷ 1 ∷ 1 ∷ 1 ∷ 1 ∷ 0 ∷ 1 ∷ 0 ∷ 0 ∷ 1 ∷ []) (0 ∷ 0 ∷ []) (1 ∷ 0 ∷ 0 ∷ 9 ∷ []) (9 ∷ []);
     }
     ∷ record {
       bytes = marked;

@@ -9,7 +9,7 @@
 --     FitsWord       every answer fits the exported word                       SameWord          one word, one answer
 --     InitsFirst     the order that is reported begins with the inits          FirstNamed, LowestPair     the rule, the pair that is named is the first
 --     LitmusRight    the entries of a table, each Judged                       Reduction         today's sheets: 01's sentences over events
--- "Well-formed" is `WellSheet s x` (parse/specs/WellSheet.antt): 01's bullets and 02 §1, said without the reader, and `Exactly` there: the reader accepts
+-- "Well-formed" is `WellSheet s x` (parse/specs/WellSheet.antt): 01's bullets, 02 §1 and §4, said without the reader, and `Exactly` there: the reader accepts
 -- the well-formed sheets and no others.
 -- Assumes nothing.
 use mathlib.Core.Path.{_≡_}

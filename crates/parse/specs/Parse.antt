@@ -1,4 +1,4 @@
--- What a sheet says (01, "The sheet" and "Numbers of the refusals"; 02 §1): any bytes are refused, by number and place, or describe an execution.
+-- What a sheet says (01, "The sheet" and "Numbers of the refusals"; 02 §1 and §4): any bytes are refused, by number and place, or describe an execution.
 -- Laws: proofs/ParseLaws.antt, proofs/PromiseLaws.antt.
 --     Parsed, parse                 the answer of the reader
 --     placeOf                       a refusal's place, from its number and the place of the field's tag
@@ -53,7 +53,8 @@ allowed last tag =
 unfoldable pub headFault : List ℕ → ℕ
 headFault v = cond (non (eqb (length v) (headBytes (editionOf v)))) 4 (cond (non (headFits (headOf (editionOf v) v))) 5 0)
 
--- 01: "For an event: value under five bytes (4), content (6), exact length (4), count (9)."; `room` tells of an agent whether there is room for one
+-- 01: "For an event: value under five bytes (4), content (6), exact length (4), count (9)."; 02 §4: "The 'under five bytes' test is six for edition 2", and
+-- its tear byte is content; `room` tells of an agent whether there is room for one
 -- event of its more, so that a reader may tell it by what it has counted (crates/faults)
 unfoldable pub eventFaultBy : (ℕ → Bool) → Head → List Event → List ℕ → ℕ
 eventFaultBy room h events v =

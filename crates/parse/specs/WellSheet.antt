@@ -1,4 +1,4 @@
--- A well-formed sheet, said without the reader (01, "The sheet", and 02 §1); and that the reader accepts just those. Proved: proofs/WellSheetLaws.antt.
+-- A well-formed sheet, said without the reader (01, "The sheet", and 02 §1 and §4); and that the reader accepts just those. Proved: proofs/WellSheetLaws.antt.
 --     WellSheet s x     s is a well-formed sheet, and x is what it describes
 --     Exactly           `parse` accepts the well-formed sheets, each as what it describes, and no others
 -- Assumes nothing.
@@ -21,7 +21,7 @@ pub record WellSheet (s : List ℕ) (x : Execution) : Type 0 where
   pub framed : Framed s
   -- that describe x, with nothing tested
   pub describes : described s ≡ x
-  -- of which every bullet of 01, "The sheet", and 02 §1 hold
+  -- of which every bullet of 01, "The sheet", and 02 §1 and §4 hold
   pub well-formed : WellFormed x
 
 abbrev pub Exactly : Type 0

@@ -1,4 +1,4 @@
--- Lent slices that the writer's definitions are run on: 01's whole example, one with a read-modify-write, markers and a pair, one or more for each refusal
+-- Lent slices that the writer's definitions are run on: 01's whole example, at both editions, one with a read-modify-write, markers and a pair, one or more for each refusal
 -- that a short table can show, and the order of the tests. Computed in proofs/Examples.antt, by one statement.
 --     Example, examples     the slices, the room, the bytes of the sheet, and the answer
 --     Right                 `encode` and `told` say so of each
@@ -43,6 +43,18 @@ start agents = 1 ∷ 0 ∷ 3 ∷ 1 ∷ agents ∷ 1 ∷ 2 ∷ 0 ∷ 6 ∷ 0 ∷ 
 abbrev pub reads : List ℕ
 reads = 2 ∷ 0 ∷ 6 ∷ 1 ∷ 1 ∷ 1 ∷ 0 ∷ 1 ∷ 0 ∷ []
 
+-- 02 §4: the same at edition 2, with an event's tear byte
+abbrev pub start-2 : ℕ → List ℕ
+start-2 tear = 1 ∷ 0 ∷ 3 ∷ 2 ∷ 1 ∷ 1 ∷ 2 ∷ 0 ∷ 7 ∷ 0 ∷ 2 ∷ 0 ∷ 0 ∷ 1 ∷ tear ∷ 0 ∷ []
+
+abbrev pub reads-2 : ℕ → List ℕ
+reads-2 tear = 2 ∷ 0 ∷ 7 ∷ 1 ∷ 1 ∷ 1 ∷ 0 ∷ 1 ∷ tear ∷ 0 ∷ []
+
+abbrev pub example-2 : ℕ → ℕ → ℕ → Written → Example
+example-2 init-tear tear room says =
+    of (five (2 ∷ 1 ∷ 1 ∷ []) ((0 ∷ 2 ∷ 0 ∷ 0 ∷ 1 ∷ init-tear ∷ 0 ∷ 1 ∷ []) ++ read tear 1) (0 ∷ 0 ∷ []) (1 ∷ 0 ∷ 0 ∷ []) []) room
+    (start-2 init-tear ++ reads-2 tear ++ (3 ∷ 0 ∷ 3 ∷ 1 ∷ 0 ∷ 0 ∷ [])) says
+
 unfoldable pub examples : List Example
 examples =
     -- 01's whole example, 30 bytes, which just fit
@@ -53,6 +65,16 @@ examples =
     -- the same: a fourth byte of the head, rests of entries and bytes behind the last event's are not looked at
     ∷ of (five (1 ∷ 1 ∷ 1 ∷ 9 ∷ []) (init 0 ++ read 1 1 ++ (1 ∷ 1 ∷ 1 ∷ [])) (0 ∷ 0 ∷ 7 ∷ []) (1 ∷ 0 ∷ 0 ∷ 1 ∷ []) (4 ∷ [])) 31
     (start 1 ++ reads ++ (3 ∷ 0 ∷ 3 ∷ 1 ∷ 0 ∷ 0 ∷ [])) (Sheet 30)
+    -- 02 §4: 01's example at edition 2, tear-free and not, 32 bytes, which just fit; in 31: 15; a tear byte that is neither: 6; an init's: 6
+    ∷ example-2 0 1 32 (Sheet 32)
+    ∷ example-2 0 0 32 (Sheet 32)
+    ∷ example-2 0 0 31 (Refused 15 0)
+    ∷ example-2 0 2 99 (Refused 6 1)
+    ∷ example-2 1 1 99 (Refused 6 0)
+    -- at edition 2, a wrong tear byte without data: 6, before the wrong length; no data: 4; edition 3, laid out as edition 1: 5
+    ∷ of (five (2 ∷ 1 ∷ 1 ∷ []) (init 0 ++ read 2 0) (0 ∷ []) [] []) 99 (start-2 0 ++ (2 ∷ 0 ∷ 6 ∷ 1 ∷ 1 ∷ 1 ∷ 0 ∷ 1 ∷ 2 ∷ [])) (Refused 6 1)
+    ∷ of (five (2 ∷ 1 ∷ 1 ∷ []) (init 0 ++ read 0 0) (0 ∷ []) [] []) 99 (start-2 0 ++ (2 ∷ 0 ∷ 6 ∷ 1 ∷ 1 ∷ 1 ∷ 0 ∷ 1 ∷ 0 ∷ [])) (Refused 4 1)
+    ∷ of (five (3 ∷ 1 ∷ 1 ∷ []) (init 0 ++ read 1 1) (0 ∷ 0 ∷ []) [] []) 99 ((1 ∷ 0 ∷ 3 ∷ 3 ∷ 1 ∷ 1 ∷ 2 ∷ 0 ∷ 6 ∷ 0 ∷ 2 ∷ 0 ∷ 0 ∷ 1 ∷ 0 ∷ []) ++ reads) (Refused 5 0)
     -- 52 bytes in a buffer of 51: 15
     ∷ of (five (1 ∷ 2 ∷ 1 ∷ []) (init 0 ++ modify ++ marker 1 ++ marker 2) (0 ∷ 0 ∷ 5 ∷ []) (1 ∷ 0 ∷ 0 ∷ []) (2 ∷ 3 ∷ [])) 51
     (start 2 ++ (2 ∷ 0 ∷ 7 ∷ 1 ∷ 3 ∷ 2 ∷ 0 ∷ 1 ∷ 0 ∷ 5 ∷ 2 ∷ 0 ∷ 5 ∷ 1 ∷ 4 ∷ 2 ∷ 0 ∷ 0 ∷ 2 ∷ 0 ∷ 5 ∷ 2 ∷ 4 ∷ 2 ∷ 0 ∷ 0 ∷ 3 ∷ 0 ∷ 3 ∷ 1 ∷ 0 ∷ 0 ∷ 4 ∷ 0 ∷ 2 ∷ 2 ∷ 3 ∷ []))

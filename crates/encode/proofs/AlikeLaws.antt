@@ -1,6 +1,6 @@
 -- What the reader says of a table that keeps to 01's rule, at edition 1 and at edition 2, is the same, places aside: both sheets are walked in step, and
 -- each field is at fault in both or in neither, by the same number. Laws of specs/Copy.antt. Assumes nothing.
---     spread, event-plain, fault-plain     what a description that keeps to the rule says, at either edition: the same event, the same fault
+--     event-plain, fault-plain     what a description that keeps to the rule says, at either edition: the same event, the same fault
 --     copy-alike                           the claim CopyAlike            copy-long     the copy is longer by a byte for each event
 use mathlib.Core.Path.{_≡_, refl, sym, ap, _∙_, subst}
 use mathlib.Core.Logic.{_⊎_, inl, inr}
@@ -12,53 +12,32 @@ use native.Mathlib.Omega.{arith}
 use native.Mathlib.Nat.{le-of-eq}
 use borrow.Author.Tests.{eqb-true, eqb-false, eq-eqb, ne-eqb, le-ltb}
 use lib.Dec.{eqb, ltb}
-use lib.ListN.{length, getD, take, drop, length-append}
-use lib.Seq.{drop-drop}
-use Rattle.basis.specs.Test.{_and_, non, any, each, from}
+use lib.ListN.{length, getD, take, length-append}
+use Rattle.basis.specs.Test.{non, any, each, from}
 use Rattle.basis.proofs.ListLaws.{each-at}
 use Rattle.format.specs.declared.Head.{Head}
 use Rattle.format.specs.declared.Shape.{Shape}
 use Rattle.format.specs.declared.Row.{Row}
 use Rattle.format.specs.declared.Pair.{Pair}
 use Rattle.format.specs.Limits.{maxBytes}
-use Rattle.format.specs.Shape.{reads, tearOf}
-use Rattle.format.specs.Event.{Access, Event, readsSome}
+use Rattle.format.specs.Shape.{tearOf}
+use Rattle.format.specs.Event.{Event, readsSome}
 use Rattle.format.specs.Execution.{Execution, withHead, atEdition}
-use Rattle.format.specs.Layout.{headBytes, eventBytes, tearBy, dataBytes, rowBytes, agentOf, shapeOf, seenOf, writtenOf, accessOf, eventOf}
+use Rattle.format.specs.Layout.{headBytes, eventBytes, tearBy, dataBytes, rowBytes, agentOf, shapeOf, eventOf}
 use Rattle.content.specs.Content.{within, headFits, alone, eventFits, roomFor}
-use Rattle.parse.specs.Parse.{Parsed, refused, whole, State, placeOf, blank, allowed, headFault, eventFault, eventFaultBy, rowFault, pairFault, valueFault, valueFaultBy, faultAt, taken, after, missing, lowestLacking, completed, finish, fieldsFrom, parse}
+use Rattle.parse.specs.Parse.{Parsed, refused, whole, State, placeOf, blank, allowed, headFault, eventFault, eventFaultBy, rowFault, valueFault, valueFaultBy, taken, after, missing, lowestLacking, completed, finish, fieldsFrom, parse}
 use Rattle.parse.proofs.ParseLaws.{at-end, at-fault, at-field}
 use Rattle.parse.proofs.RefusalLaws.{refusal-number}
 use Rattle.parse.proofs.LackLaws.{lacking-there}
 use Rattle.parse.proofs.WellSheetLaws.{allows-to}
 use Rattle.encode.specs.Table.{Description, Table}
 use Rattle.encode.specs.Encode.{field, kindByte, headValue, eventValue, rowValue, pairValue, run, encode}
-use Rattle.encode.specs.Place.{beforeEvents, beforeRows, beforePairs, eventPlace, rowPlace, pairPlace, OfEvent, Names, at-head, none-reads, no-event, at-event, at-row, at-pair}
+use Rattle.encode.specs.Place.{beforeEvents, beforeRows, beforePairs, eventPlace, rowPlace, pairPlace, Names, at-head, none-reads, no-event, at-event, at-row, at-pair}
 use Rattle.encode.specs.Copy.{tableAt, ByTheRule, Alike, refused-alike, whole-alike, CopyAlike}
-use Rattle.encode.proofs.EncodeLaws.{run-snoc, length-field, laid-agent, laid-data, said-long, said-shape, sheet-split}
+use Rattle.encode.proofs.EncodeLaws.{run-snoc, length-field, spread, event-spread, laid-agent, laid-data, said-long, said-shape, sheet-split}
 use Rattle.encode.proofs.ReadBack.{seam-short, before-end, fault-here, next-here, after-here, got-here, places-here, head-number, event-number, row-number, pair-number, front-of, count-of, upTo, more-events, whole-pairs, whole-rows, all-pairs}
 
 -- ---- an event
-
--- what agent, shape and data say
-abbrev spread : ℕ → Shape → List ℕ → Event
-spread agent a bytes =
-    record {
-      agent = agent;
-      accesses = record {
-        shape = a;
-        seen = cond (reads a) (take (a .width) bytes) [];
-        written = cond (eqb (a .kind) 2) (take (a .width) bytes) (cond (eqb (a .kind) 3) (take (a .width) (drop (a .width) bytes)) []);
-      }
-          ∷ [];
-    }
-
-event-spread : (edition agent : ℕ) (a : Shape) (bytes v : List ℕ) → agentOf v ≡ agent → shapeOf edition v ≡ a → drop (eventBytes edition) v ≡ bytes
-    → eventOf edition v ≡ spread agent a bytes
-unfolding seenOf writtenOf
-event-spread edition agent a bytes v p q r =
-    let f = sym (drop-drop (shapeOf edition v .width) (eventBytes edition) v) in
-    rw f (λ i. spread (p i) (q i) (r i))
 
 module _ (d : Description) (rule : d .tear ≡ tearOf (d .kind) (d .mode) (d .start) (d .width)) where
   abbrev plain : Shape

@@ -2,7 +2,8 @@
 --     run-snoc, run-each            one entry more; of a mapped list
 --     length-field                  the bytes of a field
 --     field-back                    a short field of a sheet is the field of its tag and value
---     laid-long, laid-shape, laid-data     the bytes before an event's data and the data, as a value: its length, its shape, its data
+--     spread, event-spread          an event by its agent, its shape and its data: what a value says
+--     laid-long, laid-agent, laid-shape, laid-data     the bytes before an event's data and the data, as a value: its length, its shape, its data
 --     tear-again                    a tear byte that a sheet says is said again
 --     said-long, said-shape         the value of a description: its length, its shape
 --     event-clean-back, event-short     an event's value without a fault is the value of its description, and is short
@@ -14,7 +15,7 @@ use mathlib.Core.Path.{_≡_, refl, sym, ap, _∙_, subst}
 use mathlib.Core.Logic.{_⊎_, inl, inr}
 use mathlib.Core.Bool.{Bool, true, false, cond}
 use mathlib.Core.List.{List, [], _∷_, _++_, append-assoc, append-nil}
-use Prim.Native.Nat.{ℕ, zero, suc, _+_, _*_, _/_, _%_, _<_, _≤_}
+use Prim.Native.Nat.{ℕ, suc, _+_, _/_, _%_, _<_, _≤_}
 use native.Mathlib.Omega.{arith}
 use native.Mathlib.Nat.{div-eq-of-lt, mod-eq-of-lt}
 use borrow.Author.Tests.{eqb-true, eqb-false, eq-eqb}
@@ -28,7 +29,7 @@ use Rattle.format.specs.declared.Row.{Row}
 use Rattle.format.specs.declared.Pair.{Pair}
 use Rattle.format.specs.declared.Shape.{Shape}
 use Rattle.format.specs.Limits.{maxMemory}
-use Rattle.format.specs.Shape.{tearOf}
+use Rattle.format.specs.Shape.{reads, tearOf}
 use Rattle.format.specs.Event.{Access, Event}
 use Rattle.format.specs.Execution.{Execution}
 use Rattle.format.specs.Field.{tagAt, lengthAt, nextAt, valueAt}
@@ -111,6 +112,28 @@ five (a ∷ b ∷ c ∷ d ∷ e ∷ l) h = refl
 one : (l : List ℕ) → 1 ≤ length l → l ≡ getD l 0 0 ∷ drop 1 l
 one [] h = absurd (omega arith)
 one (a ∷ l) h = refl
+
+-- ---- an event's value
+
+-- what agent, shape and data say
+abbrev pub spread : ℕ → Shape → List ℕ → Event
+spread agent a bytes =
+    record {
+      agent = agent;
+      accesses = record {
+        shape = a;
+        seen = cond (reads a) (take (a .width) bytes) [];
+        written = cond (eqb (a .kind) 2) (take (a .width) bytes) (cond (eqb (a .kind) 3) (take (a .width) (drop (a .width) bytes)) []);
+      }
+          ∷ [];
+    }
+
+pub event-spread : (edition agent : ℕ) (a : Shape) (bytes v : List ℕ) → agentOf v ≡ agent → shapeOf edition v ≡ a → drop (eventBytes edition) v ≡ bytes
+    → eventOf edition v ≡ spread agent a bytes
+unfolding seenOf writtenOf
+event-spread edition agent a bytes v p q r =
+    let f = sym (drop-drop (shapeOf edition v .width) (eventBytes edition) v) in
+    rw f (λ i. spread (p i) (q i) (r i))
 
 -- ---- the bytes before an event's data, by the edition
 

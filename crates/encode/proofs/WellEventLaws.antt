@@ -10,17 +10,17 @@ use native.Mathlib.Omega.{arith}
 use borrow.Author.Tests.{eqb-false, eq-eqb}
 use lib.Dec.{eqb}
 use lib.ListN.{length, getD, take, drop, length-append}
-use lib.Seq.{take-all, take-append-seam, drop-append-seam, drop-drop}
+use lib.Seq.{take-all, take-append-seam, drop-append-seam}
 use Rattle.basis.specs.Test.{_or_}
 use Rattle.format.specs.declared.Head.{Head}
 use Rattle.format.specs.declared.Shape.{Shape}
 use Rattle.format.specs.Shape.{reads, writes, tearOf}
 use Rattle.format.specs.Event.{Access, Event, nothing}
-use Rattle.format.specs.Layout.{eventBytes, tearBy, dataBytes, agentOf, shapeOf, seenOf, writtenOf, accessOf, eventOf}
+use Rattle.format.specs.Layout.{eventBytes, tearBy, dataBytes, agentOf, shapeOf, eventOf}
 use Rattle.parse.specs.Promise.{WellEvent}
 use Rattle.encode.specs.Table.{describeBy, describe}
 use Rattle.encode.specs.Encode.{kindByte, eventValue}
-use Rattle.encode.proofs.EncodeLaws.{laid, laid-long, laid-agent, laid-shape, laid-data}
+use Rattle.encode.proofs.EncodeLaws.{event-spread, laid, laid-long, laid-agent, laid-shape, laid-data}
 
 -- ---- by the kind
 
@@ -98,32 +98,21 @@ module _ (h : Head) (d : Event) (w : WellEvent h d) where
   data-same : drop (eventBytes (h .edition)) v ≡ bytes
   data-same = laid-data (h .edition) (d .agent) (a .kind) (a .mode) (a .start) (a .width) (a .tear) bytes
 
-  seen-same : seenOf (h .edition) v ≡ w .access .seen
-  unfolding seenOf reads
-  seen-same =
-      ap (λ (b : Shape). cond (reads b) (take (b .width) (drop (eventBytes (h .edition)) v)) []) shape-same
-      ∙ ap (λ (l : List ℕ). cond (reads a) (take (a .width) l) []) data-same
-      ∙ seen-by (a .kind) (a .width) (w .access .seen) (w .access .written) (w .kind .0) (w .kind .1) (w .seen)
+  seen-same : cond (reads a) (take (a .width) bytes) [] ≡ w .access .seen
+  unfolding reads
+  seen-same = seen-by (a .kind) (a .width) (w .access .seen) (w .access .written) (w .kind .0) (w .kind .1) (w .seen)
 
-  written-same : writtenOf (h .edition) v ≡ w .access .written
-  unfolding writtenOf reads writes
-  written-same =
-      ap (λ (b : Shape). cond (eqb (b .kind) 2) (take (b .width) (drop (eventBytes (h .edition)) v)) (cond (eqb (b .kind) 3) (take (b .width) (drop (eventBytes (h .edition) + b .width) v)) [])) shape-same
-      ∙ ap (λ (l : List ℕ). cond (eqb (a .kind) 2) (take (a .width) (drop (eventBytes (h .edition)) v)) (cond (eqb (a .kind) 3) (take (a .width) l) [])) (sym (drop-drop (a .width) (eventBytes (h .edition)) v))
-      ∙ ap (λ (l : List ℕ). cond (eqb (a .kind) 2) (take (a .width) l) (cond (eqb (a .kind) 3) (take (a .width) (drop (a .width) l)) [])) data-same
-      ∙ written-by (a .kind) (a .width) (w .access .seen) (w .access .written) (w .kind .0) (w .kind .1) (w .seen) (w .written)
-
-  access-same : accessOf (h .edition) v ≡ w .access
-  access-same = λ i. record { shape = shape-same i; seen = seen-same i; written = written-same i }
+  written-same : cond (eqb (a .kind) 2) (take (a .width) bytes) (cond (eqb (a .kind) 3) (take (a .width) (drop (a .width) bytes)) []) ≡ w .access .written
+  unfolding reads writes
+  written-same = written-by (a .kind) (a .width) (w .access .seen) (w .access .written) (w .kind .0) (w .kind .1) (w .seen) (w .written)
 
   agent-same : agentOf v ≡ d .agent
   agent-same = laid-agent (h .edition) (d .agent) (a .kind) (a .mode) (a .start) (a .width) (a .tear) bytes
 
   pub event-same : eventOf (h .edition) (eventValue (h .edition) (describe d)) ≡ d
   event-same =
-      ap (eventOf (h .edition)) value-plain
-      ∙ ap (λ (g : ℕ). record { agent = g; accesses = accessOf (h .edition) v ∷ [] }) agent-same
-      ∙ ap (λ (y : Access). record { agent = d .agent; accesses = y ∷ [] }) access-same
+      ap (eventOf (h .edition)) value-plain ∙ event-spread (h .edition) (d .agent) a bytes v agent-same shape-same data-same
+      ∙ (λ i. record { agent = d .agent; accesses = record { shape = a; seen = seen-same i; written = written-same i } ∷ [] })
       ∙ ap (λ (l : List Access). record { agent = d .agent; accesses = l }) (sym (w .one-access))
 
   pub plain-long : length (eventValue (h .edition) (describe d)) ≡ eventBytes (h .edition) + dataBytes a

@@ -33,7 +33,7 @@ use Rattle.format.specs.Event.{Access, Event, nobody, isInit, meets, readsSome}
 use Rattle.format.specs.Execution.{Execution, eventNo, event, inits, others, rowBelow, pairBelow, noRow, noPair}
 use Rattle.format.specs.Layout.{editionOf, headBytes, eventBytes, dataBytes, rowBytes, pairBytes, headOf, agentOf, shapeOf, accessOf, eventOf, rowOf, pairOf}
 use Rattle.content.specs.Content.{headFits, inside, formed, alone, standsFirst, eventFits, roomIn, roomFor, joins, rowRises, rowFits, parts, pairRises, pairFits}
-use Rattle.content.proofs.ContentLaws.{SizedFacts, KindFacts, a-read, a-write, both, a-marker, InitFacts, OtherFacts, TearFacts, formed-holds, tear-holds, head-holds}
+use Rattle.content.proofs.ContentLaws.{SizedFacts, KindFacts, a-read, a-write, both, a-marker, InitFacts, OtherFacts, formed-holds, tear-holds, head-holds}
 use Rattle.parse.specs.Parse.{whole, State, headFault, eventFault, eventFaultBy, rowFault, pairFault, lacks, lowestLacking, missing, completed, finish}
 use Rattle.parse.specs.Promise.{WellEvent, WellFormed, row}
 use Rattle.parse.proofs.LackLaws.{lacks-rowless}

@@ -5,8 +5,8 @@ use mathlib.Core.Bool.{Bool, true, false, cond}
 use mathlib.Core.List.{List, _++_}
 use Prim.Native.Nat.{ℕ, _≤_, _<_, _^_}
 use native.Mathlib.Omega.{arith}
-use borrow.Author.Tests.{ltb-true, ltb-false, le-ltb}
-use lib.Dec.{ltb, eqb}
+use borrow.Author.Tests.{ltb-true, le-ltb}
+use lib.Dec.{ltb}
 use lib.ListN.{length, take, drop}
 use lib.Seq.{take-append-seam, drop-append-seam}
 use Rattle.format.specs.Limits.{maxBytes}
@@ -15,7 +15,6 @@ use Rattle.parse.specs.Parse.{Parsed, refused, whole, parse}
 use Rattle.parse.proofs.PromiseLaws.{promise}
 use Rattle.parse.proofs.RefusalLaws.{refusal-low}
 use Rattle.parse.proofs.WellSheetLaws.{well-accepted, accepted-well}
-use Rattle.answer.specs.Read.{kindIn, numberIn, placeIn}
 use Rattle.answer.proofs.ReadLaws.{kind-in, number-in, place-in}
 use Rattle.puts.specs.Put.{overlaid}
 use Rattle.encode.specs.Table.{Table, tableOf}
@@ -31,7 +30,7 @@ use Rattle.encode.proofs.TearLaws.{tear-refused}
 use Rattle.encode.proofs.ShortLaws.{well-written}
 use Rattle.writer.specs.declared.Written.{Written}
 use Rattle.writer.specs.declared.Written.the-variants.{Refused, Sheet}
-use Rattle.writer.specs.Written.{toldBy, told, left, Wrote}
+use Rattle.writer.specs.Written.{toldBy, told, left}
 use Rattle.writer.specs.Word.{writtenWord, writtenIn}
 use Rattle.writer.specs.Demands.{Agree, ReadsBack, WrittenBack, WritesBack, WritesExactly, Why, by-reader, no-room, Refuses, Numbers, RoomEnough, TearRefused, SameTold, both-refused, both-written, CopyTold, FitsWord}
 

@@ -23,3 +23,4 @@ pub mod Single
 pub mod Litmus
 pub mod Fewer
 pub mod Editions
+pub mod Loosened

@@ -9,9 +9,9 @@ use format::field::FIELD_BYTES;
 use sizes::PAIR_BYTES;
 ghost use mathlib.Core.Path.{_≡_};
 ghost use Prim.Native.Nat.{_+_, _*_, min};
-ghost use lib.ListN.{length, getD};
+ghost use lib.ListN.{length, getD, take};
 ghost use Rattle.format.specs.Field.{restAt};
-ghost use Rattle.format.specs.Layout.{agentOf, shapeOf, rowGap};
+ghost use Rattle.format.specs.Layout.{eventBytes, agentOf, shapeOf, rowGap};
 ghost use Rattle.entries.specs.Entries.{rowNo, pairNo};
 
 // How much a sheet holds: its head, how many inits and events, rows and pairs, and the places of the first row and the first pair.
@@ -52,16 +52,23 @@ pub fn agent_at(s: &[u8], at: u16) -> u8
     field::byte(s, at as usize + FIELD_BYTES)
 }
 
-// The shape of its access.
-pub fn shape_at(s: &[u8], edition: u8, at: u16) -> Shape
-    ensures { λ r. ⌜ r ≡ shapeOf edition (restAt (now (s .entry)) at) ⌝ }
+// The bytes before its data, or what there is of them.
+fn front_at(s: &[u8], edition: u8, at: u16) -> &[u8]
+    ensures { λ r. ⌜ now r ≡ take (eventBytes edition) (restAt (now (s .entry)) at) ⌝ }
 {
     let start = at as usize + FIELD_BYTES;
     let end = start + sizes::event_bytes(edition) as usize;
     if end <= s.len() {
-        return layout::shape_of(edition, &s[start..end]);
+        return &s[start..end];
     }
-    layout::shape_of(edition, field::rest_at(s, at as u32))
+    field::rest_at(s, at as u32)
+}
+
+// The shape of its access.
+pub fn shape_at(s: &[u8], edition: u8, at: u16) -> Shape
+    ensures { λ r. ⌜ r ≡ shapeOf edition (restAt (now (s .entry)) at) ⌝ }
+{
+    layout::shape_of(edition, front_at(s, edition, at))
 }
 
 // Where the field of row j stands.

@@ -26,16 +26,11 @@ pub fn equal(a: Shape, b: Shape) -> bool
     (a.start == b.start) & (a.width == b.width)
 }
 
-// A width of 1, 2 or 4 that divides the start.
+// A width of 1, 2 or 4 that divides the start; without a jump by the width, which is hard to foresee.
 pub fn unbroken(width: u8, start: u8) -> bool
     ensures { λ r. ⌜ r ≡ unbroken width start ⌝ }
 {
-    match width {
-        1 => true,
-        2 => start % 2 == 0,
-        4 => start % 4 == 0,
-        _ => false,
-    }
+    (width == 1) | (((width == 2) & (start % 2 == 0)) | ((width == 4) & (start % 4 == 0)))
 }
 
 // Both sc with equal ranges.

@@ -1,5 +1,5 @@
 -- 02 §4 over what is judged: "Both editions give the same event record, with its tear byte, and rule 25 is proved once over that record." Proved in
--- proofs/Editions.antt; that a sheet of edition 1 has a copy of edition 2: crates/encode/specs/Copy.antt, crates/plimdrong/specs/Demands.antt.
+-- proofs/Editions.antt, StaysConsistent in proofs/Loosened.antt; that a sheet of edition 1 has a copy of edition 2: crates/encode/specs/Copy.antt, crates/plimdrong/specs/Demands.antt.
 --     ByRecord        two sheets with the same events, rows and pairs get the same answer, and the same is left in both buffers, whatever their heads say
 --     MayTear x e     no access of event e is tear-free            NeverTorn     such an event is never named by 25
 --     bare, Looser x y     an event without its tear bytes; y differs from x in these (and its head) alone, and what is tear-free in y is so in x

@@ -1,16 +1,12 @@
 -- 02 §4: the head is not judged, so that two sheets with the same events, rows and pairs get the same answer; and whoever 25 names is tear-free.
 -- No definition from happens-before on looks at the head. Assumes nothing.
---     judged-there     what is Judged of a sheet is Judged of one with another head
 --     by-record        the claim ByRecord of specs/Editions.antt            never-torn     the claim NeverTorn
-use mathlib.Core.Path.{_≡_, refl, sym, ap, subst, _∙_}
-use mathlib.Core.Logic.{inl, inr}
-use mathlib.Core.Bool.{Bool, true, false, cond}
-use mathlib.Core.List.{List, List·Memᴰ}
-use mathlib.Core.Option.{none}
+use mathlib.Core.Path.{_≡_, refl, sym, subst, _∙_}
+use mathlib.Core.Bool.{Bool}
+use mathlib.Core.List.{List·Memᴰ}
 use Prim.Native.Nat.{ℕ}
 use native.Mathlib.Omega.{arith}
-use lib.Dec.{T, ltb, eqb→eq}
-use lib.ListN.{length, take, drop}
+use lib.Dec.{T, eqb→eq}
 use Rattle.basis.proofs.BoolLaws.{and-elim}
 use Rattle.basis.proofs.LoopLaws.{any-elim}
 use Rattle.format.specs.declared.Head.{Head}
@@ -19,27 +15,20 @@ use Rattle.format.specs.declared.Shape.{Shape}
 use Rattle.format.specs.Shape.{tearFree}
 use Rattle.format.specs.Execution.{Execution, withHead, event}
 use Rattle.format.proofs.ExecutionLaws.{shape-mem, reads-covers, writes-covers}
-use Rattle.parse.specs.Parse.{refused, whole, parse}
 use Rattle.parse.proofs.WellSheetLaws.{exactly}
-use Rattle.marks.specs.Table.{cleared}
-use Rattle.orders.specs.Order.{Meets}
-use Rattle.orders.specs.First.{FirstOf}
-use Rattle.orders.specs.Problem.{Problem}
 use Rattle.answer.specs.declared.Names.{Names}
 use Rattle.answer.specs.declared.Names.the-variants.{Torn}
-use Rattle.answer.specs.declared.Answer.{Answer}
-use Rattle.answer.specs.declared.Answer.the-variants.{Refused, Broken, Consistent}
 use Rattle.model.specs.Events.{numbers, atRow}
 use Rattle.model.specs.Happens.{agentOrder, rowSyncs, synchronises, initFirst, step, Happens, one, more, Tests}
-use Rattle.model.specs.Rules.{breaks21, breaks24, untorn, untornFrom, breaks25, Fault, faulty, fault21, fault22, fault23, fault24, fault25, fault}
+use Rattle.model.specs.Rules.{breaks21, breaks24, untorn, untornFrom, breaks25, fault21, fault22, fault23, fault24, fault25, fault}
 use Rattle.model.specs.Bar.{barA, barB, barC, rowBars, bar}
 use Rattle.model.specs.Order.{problem}
 use Rattle.model.specs.Unsettled.{unsettled, unsettledPair}
-use Rattle.model.specs.Judged.{needed, lent, admitted, Breaks, settledOf, Judged}
 use Rattle.model.specs.Lowest.{LowestNames, at-21, at-22, at-23, at-24, at-25, at-26}
 use Rattle.model.specs.Editions.{ByRecord, MayTear, NeverTorn}
 use Rattle.model.proofs.Sound.{Sound, sound}
-use Rattle.model.proofs.JudgedLaws.{Admitted, admitted-whole, whole-admitted, same-whole, never-both, judged-unique}
+use Rattle.model.proofs.JudgedLaws.{judged-unique}
+use Rattle.model.proofs.Carried.{Same, judged-carried}
 use Rattle.model.proofs.Demands.{testable, first-named}
 
 -- ---- the same events, rows and pairs
@@ -76,63 +65,13 @@ module _ (x : Execution) (h : Head) where
     unfolding unsettledPair unsettled numbers event
     pair-same = refl
 
-    breaks-there : (f : Fault) → Breaks x hb f → Breaks y hb f
-    breaks-there f (inl e) = inl (sym fault-same ∙ e)
-    breaks-there f (inr u) =
-        inr (record { names = u .names; unbroken = sym fault-same ∙ u .unbroken; no-order = λ o m. u .no-order o (subst (λ (p : Problem). Meets p o) (sym problem-same) m) })
-
-  module _ (s t scratch order : List ℕ) (d : parse s ≡ whole x) (e : parse t ≡ whole y) where
-    -- refused for a short buffer, and so both
-    says-there : (n p : ℕ) → admitted s (length scratch) (length order) ≡ refused n p → admitted t (length scratch) (length order) ≡ refused n p
-    unfolding admitted lent
-    says-there n p q =
-        ap (lent (length scratch) (length order)) e
-        ∙ go (ltb (length scratch) (needed x)) (ltb (length order) (length (x .events))) (sym (ap (lent (length scratch) (length order)) d) ∙ q)
-      where
-        go : (a b : Bool) → cond a (refused 12 0) (cond b (refused 13 0) (whole x)) ≡ refused n p → cond a (refused 12 0) (cond b (refused 13 0) (whole y)) ≡ refused n p
-        go true b k = k
-        go false true k = k
-        go false false k = absurd (never-both refl k)
-
-    there : (z : Execution) → admitted s (length scratch) (length order) ≡ whole z → (z ≡ x) × (admitted t (length scratch) (length order) ≡ whole y)
-    there z q =
-        let a = admitted-whole s (length scratch) (length order) z q in
-        let i : z ≡ x = same-whole (a .describes) d in
-        let b = subst (λ (u : Execution). Admitted s (length scratch) (length order) u) i a in
-        (i, whole-admitted t (length scratch) (length order) y e (b .scratch) (b .order))
-
-    pub judged-there : (answer : Answer) (scratch′ order′ : List ℕ) → Judged s scratch order answer scratch′ order′ → Judged t scratch order answer scratch′ order′
-    judged-there (Refused n p) scratch′ order′ j = record { says = says-there n p (j .says); scratch-kept = j .scratch-kept; order-kept = j .order-kept }
-    judged-there (Broken n names) scratch′ order′ j =
-        let w = there (j .execution) (j .describes) in
-        record {
-          execution = y;
-          describes = w .1;
-          hb = j .hb;
-          tests = tests-there (j .hb) (subst (λ (u : Execution). Tests u (j .hb)) (w .0) (j .tests));
-          breaks = breaks-there (j .hb) (faulty n names) (subst (λ (u : Execution). Breaks u (j .hb) (faulty n names)) (w .0) (j .breaks));
-          scratch-cleared = subst (λ (u : Execution). scratch′ ≡ cleared (needed u) scratch) (w .0) (j .scratch-cleared);
-          order-kept = j .order-kept;
-        }
-    judged-there (Consistent settled) scratch′ order′ j =
-        let w = there (j .execution) (j .describes) in
-        let first : FirstOf (Meets (problem x (j .hb))) (take (length (x .events)) order′) =
-        subst (λ (u : Execution). FirstOf (Meets (problem u (j .hb))) (take (length (u .events)) order′)) (w .0) (j .first) in
-        record {
-          execution = y;
-          describes = w .1;
-          hb = j .hb;
-          tests = tests-there (j .hb) (subst (λ (u : Execution). Tests u (j .hb)) (w .0) (j .tests));
-          unbroken = sym (fault-same (j .hb)) ∙ subst (λ (u : Execution). fault u (j .hb) ≡ none) (w .0) (j .unbroken);
-          first = subst (λ (p : Problem). FirstOf (Meets p) (take (length (x .events)) order′)) (problem-same (j .hb)) first;
-          pair = subst (λ (u : Execution). settled ≡ settledOf (unsettledPair u (j .hb))) (w .0) (j .pair) ∙ ap settledOf (pair-same (j .hb));
-          scratch-cleared = subst (λ (u : Execution). scratch′ ≡ cleared (needed u) scratch) (w .0) (j .scratch-cleared);
-          order-rest = subst (λ (u : Execution). drop (length (u .events)) order′ ≡ drop (length (u .events)) order) (w .0) (j .order-rest);
-        }
+  same : Same x y
+  same = record { scratch = refl; events = refl; tests = tests-there; orders = problem-same; pair = pair-same; unbroken = λ hb e. sym (fault-same hb) ∙ e }
 
 pub by-record : ByRecord
 by-record s t x h v w scratch order a b p q p′ q′ j k =
-    judged-unique t scratch order a b p q p′ q′ (judged-there x h s t scratch order (exactly s x .1 v) (exactly t (withHead x h) .1 w) a p q j) k
+    judged-unique t scratch order a b p q p′ q′
+    (judged-carried s t x (withHead x h) (exactly s x .1 v) (exactly t (withHead x h) .1 w) (same x h) scratch order a p q (λ n names hb z e. sym (fault-same x h hb) ∙ e) j) k
 
 -- ---- 25 names tear-free events
 

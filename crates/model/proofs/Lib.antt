@@ -22,5 +22,6 @@ pub mod Demands
 pub mod Single
 pub mod Litmus
 pub mod Fewer
+pub mod Carried
 pub mod Editions
 pub mod Loosened

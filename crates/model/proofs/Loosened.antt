@@ -1,15 +1,16 @@
--- 02 §4 takes no pass back (specs/Editions, StaysConsistent): but for rule 25 no definition looks at a tear byte, so each says the same of an execution and of
+-- Every answer but 25 stays where more may tear (specs/Editions, OnlyTornTurns), so that 02 §4 takes no pass back (StaysConsistent): but for rule 25 no definition looks at a tear byte, so each says the same of an execution and of
 -- what is left without its head and its tear bytes; and rule 25 breaks less where more may tear. Assumes nothing.
 --     event-bare, shape-bare     events and accesses of what is left
---     stays-consistent           the claim
+--     only-torn-turns, stays-consistent     the claims
 use mathlib.Core.Path.{_≡_, refl, sym, ap, subst, _∙_}
 use mathlib.Core.Bool.{Bool, true, false, cond}
 use mathlib.Core.List.{List, [], _∷_, List·Memᴰ}
-use mathlib.Core.Option.{none}
-use Prim.Native.Nat.{ℕ, zero, suc, _-_, _≤_}
+use mathlib.Core.Option.{Option, none, some}
+use Prim.Native.Nat.{ℕ, zero, suc, _-_}
+use native.Mathlib.Omega.{arith}
 use lib.Dec.{T, eqb}
-use lib.ListN.{length, getD, take, drop}
-use Rattle.basis.specs.Test.{_and_, _or_, non, any, number, find, each, across, from}
+use lib.ListN.{length, getD}
+use Rattle.basis.specs.Test.{_and_, _or_, non, any, number, find, _else_, mapped, each, across, from}
 use Rattle.basis.proofs.BoolLaws.{and-elim, and-intro}
 use Rattle.basis.proofs.ListLaws.{each-length}
 use Rattle.basis.proofs.LoopLaws.{any-same, any-each, any-elim, any-intro}
@@ -20,21 +21,20 @@ use Rattle.format.specs.Shape.{writes, tearFree, covers, overlap, equal, sc, bo
 use Rattle.format.specs.Event.{Access, Event, nobody, lookup, accessAt, shapeAt, writesAt, saw, wrote, isInit}
 use Rattle.format.specs.Execution.{Execution, noHead, eventNo, event, others}
 use Rattle.parse.proofs.WellSheetLaws.{exactly}
-use Rattle.marks.specs.Table.{bytesFor, cleared}
-use Rattle.orders.specs.Problem.{Problem}
-use Rattle.orders.specs.Order.{Meets}
-use Rattle.orders.specs.First.{FirstOf}
-use Rattle.answer.specs.declared.Answer.the-variants.{Consistent}
+use Rattle.marks.specs.Table.{bytesFor}
+use Rattle.answer.specs.declared.Names.the-variants.{Torn}
+use Rattle.answer.specs.declared.Answer.the-variants.{Broken, Consistent}
 use Rattle.model.specs.Events.{numbers, atRow, ofReader, anyTwo}
 use Rattle.model.specs.Happens.{agentOrder, rowSyncs, synchronises, initFirst, step, Happens, one, more, Tests}
-use Rattle.model.specs.Rules.{breaks21, breaks22, breaks23, breaks24, untorn, untornFrom, breaks25, fault}
+use Rattle.model.specs.Rules.{breaks21, breaks22, breaks23, breaks24, untorn, untornFrom, breaks25, Fault, faulty, fault21, fault22, fault23, fault24, fault25, fault}
 use Rattle.model.specs.Bar.{barA, barB, barC, rowBars, bar}
 use Rattle.model.specs.Order.{problem}
 use Rattle.model.specs.Unsettled.{clash, unsettled, unsettledPair}
-use Rattle.model.specs.Judged.{needed, settledOf, Judged}
-use Rattle.model.specs.Editions.{bareAccess, bare, Looser, StaysConsistent}
+use Rattle.model.specs.Judged.{needed}
+use Rattle.model.specs.Editions.{bareAccess, bare, Looser, OnlyTornTurns, StaysConsistent}
 use Rattle.model.proofs.RulesLaws.{test24, test25, triples, clean, fault-none}
-use Rattle.model.proofs.JudgedLaws.{Admitted, admitted-whole, whole-admitted, same-whole, judged-unique}
+use Rattle.model.proofs.JudgedLaws.{judged-unique}
+use Rattle.model.proofs.Carried.{Same, judged-carried}
 
 -- ---- what is left
 
@@ -240,29 +240,62 @@ module _ (x y : Execution) (l : Looser x y) where
               ∙ find-fewer (test25 x) (test25 y) (triples x) (λ t. torn-there (t .0) (t .1 .0) (t .1 .1)) (c .c25);
         })
 
+    -- every rule before 25 says the same
+    same-21 : fault21 x ≡ fault21 y
+    unfolding fault21
+    same-21 = ap (mapped _) (by-left (λ (z : Execution). find (breaks21 z) (z .rows)) left-21)
+
+    same-22 : fault22 x hb ≡ fault22 y hb
+    unfolding fault22
+    same-22 = ap (mapped _) (ap (find (breaks22 hb)) numbers-same)
+
+    same-23 : fault23 x hb ≡ fault23 y hb
+    unfolding fault23
+    same-23 = ap (mapped _) (ap (find (breaks23 hb)) (l .rows))
+
+    same-24 : fault24 x hb ≡ fault24 y hb
+    unfolding fault24
+    same-24 = ap (mapped _) (by-left (λ (z : Execution). find (test24 z hb) (across (z .rows) (numbers z))) (λ z. left-24 z hb))
+
+    torn-number : (f : Fault) → fault25 x ≡ some f → f .number ≡ 25
+    unfolding fault25 mapped
+    torn-number f e = go (find (test25 x) (triples x)) e
+      where
+        go : (o : Option (ℕ × (ℕ × ℕ))) → mapped (λ (t : ℕ × (ℕ × ℕ)). faulty 25 (Torn (t .0) (t .1 .0) (t .1 .1))) o ≡ some f → f .number ≡ 25
+        go none k = let z : _≡_ {A = ℕ} 0 1 = cc in absurd (omega arith)
+        go (some t) k = cc
+
+    first-there : (f : Fault) → (f .number ≡ 25 → ⊥) → fault x hb ≡ some f → fault y hb ≡ some f
+    unfolding fault _else_
+    first-there f n e =
+        rw (← same-21, ← same-22, ← same-23, ← same-24) (go (fault21 x) (fault22 x hb) (fault23 x hb) (fault24 x hb) e)
+      where
+        go : (a b c d : Option Fault) → (a else b else c else d else fault25 x) ≡ some f → (a else b else c else d else fault25 y) ≡ some f
+        go (some a) b c d k = k
+        go none (some b) c d k = k
+        go none none (some c) d k = k
+        go none none none (some d) k = k
+        go none none none none k = absurd (n (torn-number f k))
+
+  same : Same x y
+  same =
+      record {
+        scratch = needed-same;
+        events = events-same;
+        tests = tests-there;
+        orders = problem-same;
+        pair = λ hb. by-left (λ (z : Execution). unsettledPair z hb) (λ z. pair-left z hb);
+        unbroken = unbroken-there;
+      }
+
 -- ---- of two sheets
+
+pub only-torn-turns : OnlyTornTurns
+only-torn-turns s t x y v w l scratch order a b p q p′ q′ h j k =
+    judged-unique t scratch order a b p q p′ q′
+    (judged-carried s t x y (exactly s x .1 v) (exactly t y .1 w) (same x y l) scratch order a p q
+    (λ n names hb z. first-there x y l hb (faulty n names) (λ i. h names (z ∙ ap (λ (m : ℕ). Broken m names) i))) j) k
 
 pub stays-consistent : StaysConsistent
 stays-consistent s t x y v w l scratch order settled b p q p′ q′ j k =
-    let d = exactly s x .1 v in
-    let a = admitted-whole s (length scratch) (length order) (j .execution) (j .describes) in
-    let e : j .execution ≡ x = same-whole (a .describes) d in
-    let f = subst (λ (z : Execution). Admitted s (length scratch) (length order) z) e a in
-    let hb = j .hb in
-    let first : FirstOf (Meets (problem x hb)) (take (length (x .events)) q) =
-    subst (λ (z : Execution). FirstOf (Meets (problem z hb)) (take (length (z .events)) q)) e (j .first) in
-    let there : Judged t scratch order (Consistent settled) p q =
-    record {
-      execution = y;
-      describes = whole-admitted t (length scratch) (length order) y (exactly t y .1 w) (subst (λ (n : ℕ). n ≤ length scratch) (needed-same x y l) (f .scratch)) (subst (λ (n : ℕ). n ≤ length order) (events-same x y l) (f .order));
-      hb = hb;
-      tests = tests-there x y l hb (subst (λ (z : Execution). Tests z hb) e (j .tests));
-      unbroken = unbroken-there x y l hb (subst (λ (z : Execution). fault z hb ≡ none) e (j .unbroken));
-      first = subst (λ (n : ℕ). FirstOf (Meets (problem y hb)) (take n q)) (events-same x y l)
-          (subst (λ (r : Problem). FirstOf (Meets r) (take (length (x .events)) q)) (problem-same x y l hb) first);
-      pair = subst (λ (z : Execution). settled ≡ settledOf (unsettledPair z hb)) e (j .pair)
-          ∙ ap settledOf (by-left x y l (λ (z : Execution). unsettledPair z hb) (λ z. pair-left z hb));
-      scratch-cleared = subst (λ (z : Execution). p ≡ cleared (needed z) scratch) e (j .scratch-cleared) ∙ ap (λ (n : ℕ). cleared n scratch) (needed-same x y l);
-      order-rest = subst (λ (n : ℕ). drop n q ≡ drop n order) (events-same x y l) (subst (λ (z : Execution). drop (length (z .events)) q ≡ drop (length (z .events)) order) e (j .order-rest));
-    } in
-    judged-unique t scratch order (Consistent settled) b p q p′ q′ there k
+    only-torn-turns s t x y v w l scratch order (Consistent settled) b p q p′ q′ (λ names e. let z : _≡_ {A = ℕ} 0 1 = cc in omega arith) j k

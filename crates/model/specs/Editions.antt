@@ -3,6 +3,7 @@
 --     ByRecord        two sheets with the same events, rows and pairs get the same answer, and the same is left in both buffers, whatever their heads say
 --     MayTear x e     no access of event e is tear-free            NeverTorn     such an event is never named by 25
 --     bare, Looser x y     an event without its tear bytes; y differs from x in these (and its head) alone, and what is tear-free in y is so in x
+--     OnlyTornTurns        where more may tear, every answer but 25 stays
 --     StaysConsistent      02 §4 takes no pass back: what is consistent stays so, with the same order and the same pair, where more may tear
 -- Assumes nothing.
 use mathlib.Core.Path.{_≡_}
@@ -15,6 +16,7 @@ use Rattle.format.specs.Shape.{tearFree}
 use Rattle.format.specs.Event.{Access, Event, shapeAt}
 use Rattle.format.specs.Execution.{Execution, withHead, event}
 use Rattle.parse.specs.WellSheet.{WellSheet}
+use Rattle.answer.specs.declared.Names.{Names}
 use Rattle.answer.specs.declared.Names.the-variants.{Torn}
 use Rattle.answer.specs.declared.Settled.{Settled}
 use Rattle.answer.specs.declared.Answer.{Answer}
@@ -52,6 +54,12 @@ pub record Looser (x y : Execution) : Type 0 where
   pub rows : x .rows ≡ y .rows
   pub pairs : x .pairs ≡ y .pairs
   pub fewer : (e n : ℕ) → T (tearFree (shapeAt (event y e) n)) → T (tearFree (shapeAt (event x e) n))
+
+-- 21 to 24 and 26, 12 and 13, and consistent: no other rule looks at a tear byte
+abbrev pub OnlyTornTurns : Type 0
+OnlyTornTurns = (s t : List ℕ) (x y : Execution) → WellSheet s x → WellSheet t y → Looser x y
+    → (scratch order : List ℕ) (a b : Answer) (p q p′ q′ : List ℕ) → ((names : Names) → a ≡ Broken 25 names → ⊥) → Judged s scratch order a p q
+    → Judged t scratch order b p′ q′ → (a ≡ b) × (p ≡ p′) × (q ≡ q′)
 
 -- "In ECMA-262 an unordered access is tear-free only through a typed array of an unclamped integer type": 01 took more for tear-free than is, so that it could
 -- break what is allowed, and never passed what is not.

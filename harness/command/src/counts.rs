@@ -35,6 +35,8 @@ pub struct Summary {
     /// What was audited, as it was named.
     pub archives: Vec<String>,
     pub counts: Counts,
+    /// Files that were left out, and by which ending of a name.
+    pub left_out: Option<(String, u64)>,
     pub compared: Option<Compared>,
 }
 

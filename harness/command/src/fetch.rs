@@ -53,35 +53,35 @@ pub fn rest(from: &mut impl Read, sheet: &[u8]) -> io::Result<(u64, [u8; 32])> {
     }
 }
 
-/// A regular file of an archive, whole: its first `MOST` bytes into `sheet`; length and digest of all of it.
-pub fn record(path: &Path, sheet: &mut Vec<u8>) -> Result<(u64, [u8; 32]), Unreadable> {
+/// A regular file of an archive, whole: its front into `room`, of `MOST` bytes; how many stand there, length and digest of all.
+pub fn record(path: &Path, room: &mut [u8]) -> Result<(usize, (u64, [u8; 32])), Unreadable> {
     let mut file = OpenOptions::new().read(true).custom_flags(O_NONBLOCK).open(path).map_err(|e| {
         // a socket cannot be opened at all (ENXIO)
-        if e.raw_os_error() == Some(6) {
-            Unreadable::NoRegularFile
-        } else {
-            Unreadable::from(e)
+        match e.raw_os_error() {
+            Some(6) => Unreadable::NoRegularFile,
+            _ => e.into(),
         }
     })?;
     let said = regular(&file)?;
-    sheet.resize(MOST, 0);
     let mut got = 0;
-    // where as many came as the file has there is no need to ask for more
-    while got < MOST {
-        match file.read(&mut sheet[got..]) {
+    while got < room.len() {
+        match file.read(&mut room[got..]) {
             Ok(0) => break,
             Ok(n) => got += n,
             Err(e) if e.kind() == io::ErrorKind::Interrupted => continue,
             Err(e) => return Err(e.into()),
         }
+        // where as many came as the file has there is no need to ask for more
         if got as u64 == said {
             break;
         }
     }
-    sheet.truncate(got);
-    let whole = if got < MOST { (got as u64, Sha256::digest(&sheet).into()) } else { rest(&mut file, sheet)? };
+    let whole = match got {
+        MOST => rest(&mut file, room)?,
+        _ => (got as u64, Sha256::digest(&room[..got]).into()),
+    };
     if whole.0 == said {
-        Ok(whole)
+        Ok((got, whole))
     } else {
         Err(Unreadable::LengthChanged)
     }

@@ -11,6 +11,7 @@ mod judge;
 mod names;
 mod read;
 mod record;
+mod report;
 mod sentence;
 mod write;
 

@@ -31,7 +31,11 @@ pub enum Unreadable {
     Links,
     LoopOfFolders,
     LengthChanged,
+    /// In a tar stream:
     CutShort,
+    Damaged,
+    NoEnd,
+    LinkInArchive,
     Failed(i32),
 }
 
@@ -47,6 +51,9 @@ impl fmt::Display for Unreadable {
             Unreadable::LoopOfFolders => "a link to a folder above it",
             Unreadable::LengthChanged => "its length changed while it was read",
             Unreadable::CutShort => "the archive ends inside it",
+            Unreadable::Damaged => "the archive is damaged from here on",
+            Unreadable::NoEnd => "the archive ends without its end mark",
+            Unreadable::LinkInArchive => "a link, whose bytes stand elsewhere",
             Unreadable::Failed(number) => return write!(f, "reading it failed (error {number})"),
         })
     }

@@ -1,2 +1,0 @@
-use crate::Entry;
-pub const ENTRY: Entry = Entry { command: || clap::Command::new("audit"), run: |_| 0 };

@@ -1,0 +1,280 @@
+//! plimdrong audit: every record of an archive judged, on all cores, in memory that does not grow with the archive.
+
+mod compare;
+mod csv;
+mod output;
+pub mod page;
+mod pipeline;
+pub mod sort;
+mod source;
+
+use crate::counts::Summary;
+use crate::{complain, names, Entry, DONE, FAILED, FOUND};
+use clap::{value_parser, Arg, ArgAction, ArgMatches, Command};
+use indicatif::{ProgressBar, ProgressStyle};
+use output::{Failure, Output};
+use pipeline::Sinks;
+use source::Source;
+use std::ffi::OsString;
+use std::os::unix::ffi::OsStrExt;
+use std::path::{Path, PathBuf};
+
+pub const ENTRY: Entry = Entry { command, run };
+
+/// How many records of each answer the report lists, if nothing is said.
+const SHOW: u64 = 200;
+
+fn command() -> Command {
+    let file = |name: &'static str, help: &'static str| {
+        Arg::new(name).long(name).value_name("FILE").value_parser(value_parser!(PathBuf)).help(help)
+    };
+    Command::new("audit")
+        .about("Audits an archive: every record judged, the answers counted, those named that have a read byte without a source")
+        .arg(
+            Arg::new("archive")
+                .value_name("FOLDER|LIST")
+                .num_args(0..)
+                .value_parser(value_parser!(OsString))
+                .help("A folder, with all below it; a tar file; or a list of names, one a line or each ended by a zero byte (- is a list on standard input)"),
+        )
+        .arg(
+            Arg::new("tar")
+                .long("tar")
+                .value_name("FILE")
+                .action(ArgAction::Append)
+                .value_parser(value_parser!(OsString))
+                .help("A tar stream; - is standard input"),
+        )
+        .arg(
+            Arg::new("ending")
+                .long("ending")
+                .value_name("END")
+                .value_parser(value_parser!(OsString))
+                .help("Only files whose names end so, as .sheet; how many are left out is told"),
+        )
+        .arg(file("csv", "A line for each record to FILE: name, bytes, digest (SHA-256), line; - is standard output, and the page then goes to standard error"))
+        .arg(file("html", "The report to FILE: counts, records by answer, sentence and picture of each broken one; one file, to open in a browser"))
+        .arg(
+            Arg::new("out")
+                .long("out")
+                .value_name("FOLDER")
+                .value_parser(value_parser!(PathBuf))
+                .conflicts_with_all(["csv", "html"])
+                .help("All of it to FOLDER, which is made: page.txt, records.csv, sourceless.csv (those with a read byte without a source), report.html; with --compare differs.csv"),
+        )
+        .arg(
+            Arg::new("compare")
+                .long("compare")
+                .value_name("OLD.csv")
+                .help("What another judge said: a CSV with the columns name and verdict, which is pass or fail. Tells how many of its passes this judge refuses"),
+        )
+        .arg(file("differs", "With --compare: the records on which the two judges differ to FILE").requires("compare"))
+        .arg(
+            Arg::new("show")
+                .long("show")
+                .value_name("N")
+                .default_value("200")
+                .value_parser(shown)
+                .help("How many records of each answer the report lists; all for all"),
+        )
+        .after_help(
+            "Examples:\n  ./plimdrong audit examples/litmus --ending .sheet\n  ./plimdrong audit examples/litmus --ending .sheet --out target/audit\n  \
+             find examples -name '*.sheet' -print0 | ./plimdrong audit - --csv target/records.csv\n  \
+             tar cf - examples/litmus/*.sheet | ./plimdrong audit --tar - --html target/report.html\n  \
+             ./plimdrong audit examples/litmus --ending .sheet --compare examples/audit/old.csv --differs target/differs.csv\n\n\
+             Status: 0 all records are consistent; 1 some are not; 2 some could not be read, there was none, or a report could not be written.",
+        )
+}
+
+fn shown(word: &str) -> Result<Option<u64>, String> {
+    match word {
+        "all" => Ok(None),
+        _ => word.parse().map(Some).map_err(|_| format!("write a number, as {SHOW}, or all")),
+    }
+}
+
+fn run(matches: &ArgMatches) -> u8 {
+    match audited(matches) {
+        Ok(status) => status,
+        Err(why) => {
+            complain(why);
+            FAILED
+        }
+    }
+}
+
+fn sources(matches: &ArgMatches) -> Result<Vec<Source>, Failure> {
+    let mut all = vec![];
+    for archive in matches.get_many::<OsString>("archive").into_iter().flatten() {
+        all.push(Source::of(archive.as_bytes())?);
+    }
+    let tars = matches.get_many::<OsString>("tar").into_iter().flatten();
+    all.extend(tars.map(|file| Source::Tar(file.as_bytes().to_vec())));
+    if all.is_empty() {
+        return Err("there is nothing to audit: name a folder, a list or a tar file, as: plimdrong audit FOLDER".into());
+    }
+    if all.iter().filter(|source| source.name() == b"-").count() > 1 {
+        return Err("standard input can be read once only: give - once".into());
+    }
+    Ok(all)
+}
+
+/// The files that are to be written.
+struct Wanted {
+    csv: Option<PathBuf>,
+    html: Option<PathBuf>,
+    sourceless: Option<PathBuf>,
+    differs: Option<PathBuf>,
+    page: Option<PathBuf>,
+}
+
+impl Wanted {
+    fn of(matches: &ArgMatches) -> Result<Wanted, Failure> {
+        let path = |name: &str| matches.get_one::<PathBuf>(name).cloned();
+        let Some(folder) = path("out") else {
+            let (csv, html, differs) = (path("csv"), path("html"), path("differs"));
+            return Ok(Wanted { csv, html, differs, sourceless: None, page: None });
+        };
+        std::fs::create_dir_all(&folder)
+            .map_err(|e| format!("{}: {}", names::shown(folder.as_os_str().as_bytes()), crate::write::failure(&e)))?;
+        let within = |name: &str| Some(folder.join(name));
+        Ok(Wanted {
+            csv: within("records.csv"),
+            html: within("report.html"),
+            sourceless: within("sourceless.csv"),
+            differs: path("differs").or(matches.contains_id("compare").then(|| folder.join("differs.csv"))),
+            page: within("page.txt"),
+        })
+    }
+
+    /// What is written into the archive would be a record of it.
+    fn outside(&self, sources: &[Source]) -> Result<(), Failure> {
+        let files = [&self.csv, &self.html, &self.sourceless, &self.differs, &self.page];
+        for file in files.into_iter().flatten() {
+            let above = match file.parent() {
+                Some(parent) if parent != Path::new("") => parent,
+                _ => Path::new("."),
+            };
+            let Ok(above) = above.canonicalize() else {
+                continue;
+            };
+            for source in sources {
+                let Source::Folder(folder) = source else {
+                    continue;
+                };
+                let folder = Path::new(std::ffi::OsStr::from_bytes(folder)).canonicalize();
+                let is_device = std::fs::metadata(file).is_ok_and(|about| !about.is_file());
+                if file != Path::new("-") && !is_device && folder.is_ok_and(|folder| above.starts_with(folder)) {
+                    return Err(format!(
+                        "{}: it would stand inside the archive, as a record of it: name another place",
+                        names::shown(file.as_os_str().as_bytes())
+                    ));
+                }
+            }
+        }
+        Ok(())
+    }
+}
+
+fn audited(matches: &ArgMatches) -> Result<u8, Failure> {
+    let sources = sources(matches)?;
+    let wanted = Wanted::of(matches)?;
+    wanted.outside(&sources)?;
+    let show = *matches.get_one::<Option<u64>>("show").expect("it has a default");
+    let compare = matches.get_one::<String>("compare").map(|file| compare::Compare::read(file)).transpose()?;
+    let create = |path: &Option<PathBuf>| path.as_deref().map(Output::create).transpose();
+    let mut differs = create(&wanted.differs)?;
+    let mut page_to = create(&wanted.page)?;
+    let mut html = create(&wanted.html)?;
+    let report = match html {
+        Some(_) => Some(crate::report::Report::new(show).map_err(temporary)?),
+        None => None,
+    };
+    let sinks = Sinks::new(create(&wanted.csv)?, create(&wanted.sourceless)?, report, compare)?;
+    let bar = bar(&sources);
+    let ending = matches.get_one::<OsString>("ending");
+    let told = pipeline::judged(&sources, ending.map_or(b"", |e| e.as_bytes()), sinks, &bar);
+    bar.finish_and_clear();
+    let mut told = told?;
+
+    let archives = sources.iter().map(|source| names::shown(source.name())).collect();
+    let compared = match told.compare.take() {
+        Some(compare) => Some(match &mut differs {
+            Some(to) => {
+                let mut told = None;
+                to.by(|to| compare.finish(to).map(|compared| told = Some(compared)))?;
+                told.expect("it was set")
+            }
+            None => compare.finish(&mut std::io::sink()).map_err(temporary)?,
+        }),
+        None => None,
+    };
+    let left_out = ending.map(|e| (names::shown(e.as_bytes()), told.left_out));
+    let summary = Summary { archives, counts: told.counts.clone(), left_out, compared };
+    if let (Some(to), Some(report)) = (&mut html, told.report.take()) {
+        to.by(|to| report.finish(&summary, to))?;
+    }
+    let mut text = page::page(&summary, &told.sourceless, &told.lost);
+    if wanted.csv.is_none() && wanted.html.is_none() {
+        text +=
+            "\nA line for each record: --csv FILE. A report with pictures: --html FILE. Both and more: --out FOLDER.\n";
+    }
+    if let Some(to) = &mut page_to {
+        to.put(text.as_bytes())?;
+    }
+    // all that is promised is there, or nothing has its name
+    told.outputs.extend([differs, html, page_to].into_iter().flatten());
+    told.outputs.into_iter().try_for_each(Output::finish)?;
+    if wanted.csv.as_deref() == Some(Path::new("-")) || wanted.html.as_deref() == Some(Path::new("-")) {
+        eprint!("{text}");
+    } else {
+        use std::io::Write;
+        let mut out = std::io::stdout().lock();
+        out.write_all(text.as_bytes())
+            .and_then(|()| out.flush())
+            .map_err(|e| format!("the page could not be written: standard output: {}", crate::write::failure(&e)))?;
+    }
+    if summary.counts.all() == 0 {
+        complain("there was no record: check the archive's name. Nothing was judged, and that is no pass");
+        return Ok(FAILED);
+    }
+    Ok(
+        match (summary.counts.of(crate::record::Class::Unreadable), summary.counts.consistent() == summary.counts.all())
+        {
+            (0, true) => DONE,
+            (0, false) => FOUND,
+            _ => FAILED,
+        },
+    )
+}
+
+fn temporary(e: std::io::Error) -> Failure {
+    format!("a temporary file in {}: {}", std::env::temp_dir().display(), crate::write::failure(&e))
+}
+
+/// A bar on a terminal; in a log nothing. How many records there are is found out meanwhile.
+fn bar(sources: &[Source]) -> ProgressBar {
+    let bar = ProgressBar::new(0);
+    if bar.is_hidden() {
+        return bar;
+    }
+    let unknown = ProgressStyle::with_template("{spinner} {human_pos} records, {per_sec}").expect("a fixed form");
+    let known = ProgressStyle::with_template("{bar:40} {human_pos} of {human_len} records, {per_sec}, {eta} left")
+        .expect("a fixed form");
+    bar.set_style(unknown);
+    let folders: Option<Vec<Vec<u8>>> = sources
+        .iter()
+        .map(|source| match source {
+            Source::Folder(folder) => Some(folder.clone()),
+            _ => None,
+        })
+        .collect();
+    if let Some(folders) = folders {
+        let bar = bar.clone();
+        std::thread::spawn(move || {
+            bar.set_length(folders.iter().map(|folder| source::estimate(folder)).sum());
+            bar.set_style(known);
+        });
+    }
+    bar
+}

@@ -1,0 +1,157 @@
+//! The page at the end of an audit: the auditor's question first, then all counts.
+
+use crate::counts::{Old, Summary};
+use crate::names::shown;
+use crate::record::Class;
+use std::fmt::Write;
+
+/// How many records are named on the page.
+pub const NAMED: usize = 10;
+
+/// A number with commas between thousands.
+pub fn number(n: u64) -> String {
+    let digits = n.to_string();
+    let mut text = String::new();
+    for (i, digit) in digits.chars().enumerate() {
+        if i > 0 && (digits.len() - i).is_multiple_of(3) {
+            text.push(',');
+        }
+        text.push(digit);
+    }
+    text
+}
+
+/// An answer in few words.
+pub fn words(class: Class) -> String {
+    match class {
+        Class::Orderly => "orderly".into(),
+        Class::Unsettled => "not orderly (an unsettled pair)".into(),
+        Class::Broken(rule) => format!("{rule} {}", rule_words(rule)),
+        Class::Refused(number) => {
+            let meaning = plimdrong::refusal(number).map_or("", |r| r.meaning);
+            format!("{number} {}", meaning.split([':', '.']).next().unwrap_or_default())
+        }
+        Class::Unreadable => "could not be read".into(),
+    }
+}
+
+pub fn rule_words(rule: u8) -> &'static str {
+    match rule {
+        21 => "a byte seen is not the byte that was written",
+        22 => "an event happens before itself",
+        23 => "a read happens before the write that it read",
+        24 => "a read saw a byte that was overwritten before",
+        25 => "a tear-free read has bytes of two writes",
+        26 => "no total order of the events meets the rules",
+        _ => "",
+    }
+}
+
+/// The page. `sourceless`: the first records that were refused 11, at most `NAMED`.
+pub fn page(summary: &Summary, sourceless: &[Vec<u8>], lost: &[(Vec<u8>, String)]) -> String {
+    let counts = &summary.counts;
+    let mut page = format!("Audit of {}\n\n", summary.archives.join(", "));
+    let mut row = |depth: usize, what: &str, n: u64| {
+        let what = format!("{}{what}", "  ".repeat(depth));
+        let _ = writeln!(page, "{what:<58}{:>14}", number(n));
+    };
+    row(0, "records", counts.all());
+    row(1, "consistent", counts.consistent());
+    row(2, &words(Class::Orderly), counts.of(Class::Orderly));
+    row(2, &words(Class::Unsettled), counts.of(Class::Unsettled));
+    row(1, "broken, by rule", counts.broken());
+    for (&class, &n) in counts.0.iter().filter(|(c, _)| matches!(c, Class::Broken(_))) {
+        row(2, &words(class), n);
+    }
+    row(1, "refused, by number", counts.refused());
+    for (&class, &n) in counts.0.iter().filter(|(c, _)| matches!(c, Class::Refused(_))) {
+        row(2, &words(class), n);
+    }
+    row(1, &words(Class::Unreadable), counts.of(Class::Unreadable));
+    if let Some((ending, n)) = &summary.left_out {
+        row(0, &format!("left out, since their names do not end with {ending}"), *n);
+    }
+    questions(summary, sourceless, lost, &mut page);
+    page
+}
+
+fn questions(summary: &Summary, sourceless: &[Vec<u8>], lost: &[(Vec<u8>, String)], page: &mut String) {
+    let counts = &summary.counts;
+    let without = counts.of(Class::Refused(11));
+    let mut say = |line: String| {
+        let _ = writeln!(page, "{line}");
+    };
+    say(format!(
+        "\nA read byte without a source: {} of {} records (refused 11).",
+        number(without),
+        number(counts.all())
+    ));
+    sourceless.iter().for_each(|name| say(format!("  {}", shown(name))));
+    if without > sourceless.len() as u64 {
+        say(format!(
+            "  .. and {} more: in the CSV, the lines with `refused 11`",
+            number(without - sourceless.len() as u64)
+        ));
+    }
+    let others = counts.refused() - without;
+    if others > 0 {
+        say(format!(
+            "  Of the {} records refused by another number nothing is said of their sources: that fault was met first.",
+            number(others)
+        ));
+    }
+    say(format!(
+        "Agents that are promised and never appear: {} records (refused 14).",
+        number(counts.of(Class::Refused(14)))
+    ));
+    say(format!(
+        "Broken: {} records. Consistent but not orderly: {}.",
+        number(counts.broken()),
+        number(counts.of(Class::Unsettled))
+    ));
+    if counts.of(Class::Unreadable) > 0 {
+        say(format!("Could not be read, and not judged: {}.", number(counts.of(Class::Unreadable))));
+        lost.iter().for_each(|(name, why)| say(format!("  {}: {why}", shown(name))));
+        if counts.of(Class::Unreadable) > lost.len() as u64 {
+            let more = counts.of(Class::Unreadable) - lost.len() as u64;
+            say(format!("  .. and {} more: in the CSV, the lines with `unreadable`", number(more)));
+        }
+    }
+    if let Some(compared) = &summary.compared {
+        let of = |old: Old, asked: &dyn Fn(Class) -> bool| number(compared.sum(|o, c| o == old && asked(c)));
+        let consistent = |c: Class| matches!(c, Class::Orderly | Class::Unsettled);
+        let (refused, broken) = (|c: Class| matches!(c, Class::Refused(_)), |c: Class| matches!(c, Class::Broken(_)));
+        say(format!("\nCompared with {}", compared.file));
+        let mut row = |depth: usize, what: &str, n: String| {
+            say(format!("{:<58}{n:>14}", format!("{}{what}", "  ".repeat(depth))))
+        };
+        for (old, what) in [(Old::Pass, "passes of the other judge"), (Old::Fail, "fails of the other judge")] {
+            row(0, what, of(old, &|_| true));
+            row(1, "consistent here", of(old, &consistent));
+            row(1, "broken here", of(old, &broken));
+            row(1, "refused here", of(old, &refused));
+            row(2, "for a read byte without a source", of(old, &|c| c == Class::Refused(11)));
+            row(1, "could not be read here", of(old, &|c| c == Class::Unreadable));
+        }
+        row(0, "records of which the other judge says nothing", number(compared.unsaid));
+        row(0, "names of the other judge that are no records here", number(compared.elsewhere));
+        if compared.twice > 0 {
+            row(0, "names that stand there more than once (the first counts)", number(compared.twice));
+        }
+        say(format!(
+            "Passes of the other judge that this one does not uphold: {} refused, {} broken.",
+            of(Old::Pass, &refused),
+            of(Old::Pass, &broken)
+        ));
+    }
+}
+
+#[cfg(test)]
+mod tests {
+    #[test]
+    fn numbers() {
+        for (n, text) in [(0, "0"), (999, "999"), (1000, "1,000"), (1234567, "1,234,567")] {
+            assert_eq!(super::number(n), text);
+        }
+    }
+}

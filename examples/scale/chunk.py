@@ -29,9 +29,10 @@ def verdicts(sheets):
     """The report lines of sheets, by one run of `plimdrong judge --batch`."""
     program = os.environ.get("PLIMDRONG", str(root / "plimdrong"))
     batch = b"".join(len(sheet).to_bytes(2, "big") + sheet for sheet in sheets)
-    lines = subprocess.run([program, "judge", "--batch"], input=batch, stdout=subprocess.PIPE, check=True).stdout.decode().splitlines()
-    if len(lines) != len(sheets):
-        sys.exit(f"chunk.py: {program} judge --batch gave {len(lines)} lines for {len(sheets)} sheets: see that it is of this repository")
+    done = subprocess.run([program, "judge", "--batch"], input=batch, stdout=subprocess.PIPE)
+    lines = done.stdout.decode().splitlines()
+    if done.returncode or len(lines) != len(sheets):
+        sys.exit(f"chunk.py: {program} judge --batch gave {len(lines)} lines for {len(sheets)} sheets, status {done.returncode}: see that it is of this repository")
     return iter(lines)
 
 
@@ -75,4 +76,9 @@ def main(arguments):
 
 
 if __name__ == "__main__":
-    sys.exit(main(sys.argv[1:]))
+    try:
+        sys.exit(main(sys.argv[1:]))
+    except BrokenPipeError:
+        # parallel has given up, and said why
+        os.dup2(os.open(os.devnull, os.O_WRONLY), 1)
+        sys.exit(1)

@@ -1,7 +1,6 @@
 """dask_audit.py: audits an archive through Dask, and writes the CSV that `plimdrong audit --csv` writes.
 
-    dask_audit.py --scheduler tcp://127.0.0.1:8786 --out records.csv FOLDER
-    dask_audit.py --scheduler tcp://127.0.0.1:8786 --out records.csv --list FILE
+    dask_audit.py --scheduler tcp://127.0.0.1:8786 --out records.csv FOLDER|LIST
 
 The driver names the records and hands chunks of names to the workers. A worker reads its chunk's records from the file
 system that all share and answers with their lines. The driver writes the lines in the order of the names to records.csv.part,
@@ -184,23 +183,21 @@ def asked(arguments):
     parser = argparse.ArgumentParser(description="Audits an archive through Dask: a line of CSV for each record.")
     parser.add_argument("--scheduler", required=True, help="its address, as tcp://127.0.0.1:8786")
     parser.add_argument("--out", required=True, help="the CSV; it is there only when it is whole")
-    parser.add_argument("--list", action="store_true", help="the archive is a file of names, not a folder")
     parser.add_argument("--chunk", type=int, default=1000, help="records a chunk")
     parser.add_argument("--window", type=int, default=64, help="chunks under way at a time")
     parser.add_argument("--tries", type=int, default=5, help="how often a chunk may fail")
     parser.add_argument("--wait", type=float, default=600, help="seconds to wait for a scheduler")
     parser.add_argument("--pause", type=float, default=0, help="seconds that a worker waits before each chunk, for tests")
-    parser.add_argument("archive")
+    parser.add_argument("archive", metavar="FOLDER|LIST", help="a folder, with all below it, or a file of names")
     options = parser.parse_args(arguments)
     options.below = os.getcwdb()
     options.archive = os.fsencode(options.archive)
+    options.list = not os.path.isdir(options.archive)
     return options
 
 
 def main(arguments):
     options = asked(arguments)
-    if not options.list and not os.path.isdir(options.archive):
-        sys.exit(f"dask_audit: {os.fsdecode(options.archive)}: no folder: name one, or a list with --list")
     names = (plimdrong.listed if options.list else plimdrong.names)(options.archive)
     # a lost connection is told in a line; its traces of many lines help nobody
     logging.getLogger("distributed").setLevel(logging.CRITICAL)

@@ -1,6 +1,6 @@
 #!/usr/bin/env bash
-# parallel_audit.sh OUT.csv FOLDER, or: parallel_audit.sh OUT.csv --list FILE
-# Audits an archive through GNU parallel over `plimdrong judge --batch`, and writes the CSV that `plimdrong audit --csv` writes.
+# parallel_audit.sh OUT.csv FOLDER|LIST: audits an archive through GNU parallel over `plimdrong judge --batch`, and writes the CSV that
+# `plimdrong audit --csv` writes.
 #   names of the records, zero bytes between -> blocks of them, a job each -> lines of the CSV, kept in order
 # On several machines that share the file system: PARALLEL='-S one,two --wd .' in the environment, which parallel itself reads.
 # PLIMDRONG names the command (default: ./plimdrong at the root), PYTHON the Python (default: python3), BLOCK the bytes of names a job.
@@ -12,20 +12,13 @@ python=${PYTHON:-python3}
 complain() { printf 'parallel_audit: %s\n' "$*" >&2; }
 die() { complain "$*"; exit 2; }
 
-[ $# -ge 2 ] || die "usage: parallel_audit.sh OUT.csv FOLDER, or: parallel_audit.sh OUT.csv --list FILE"
+[ $# -eq 2 ] || die "usage: parallel_audit.sh OUT.csv FOLDER|LIST"
 command -v parallel >/dev/null || die "there is no parallel on the PATH: install GNU parallel, on Debian: apt-get install parallel"
-out=$1
-how=names rows=(rows)
-if [ "$2" = --list ]; then
-    [ $# -eq 3 ] || die "--list needs one file of names"
-    how=listed rows=(rows --list)
-    shift
-elif [ ! -d "$2" ]; then
-    die "$2: no folder: name one, or a list with --list"
-fi
-archive=$2
+out=$1 archive=$2
+if [ -d "$archive" ]; then how=names rows=(rows); else how=listed rows=(rows --list); fi
 # where jobs run elsewhere, the environment does not go with them: the command goes as an argument, by its whole path
-program=$(command -v "${PLIMDRONG:-$root/plimdrong}") && program=$(readlink -f "$program") || die "${PLIMDRONG-}: no such program: set PLIMDRONG to the command, or unset it"
+program=$(readlink -f "${PLIMDRONG:-$root/plimdrong}")
+[ -x "$program" ] || die "${PLIMDRONG-}: no such program: set PLIMDRONG to the command's path, or unset it"
 chunk=(env PLIMDRONG="$program" "$python" "$root/examples/scale/chunk.py")
 
 # The command is built, where it must be, by one run of it and not by all at once.
@@ -34,7 +27,7 @@ chunk=(env PLIMDRONG="$program" "$python" "$root/examples/scale/chunk.py")
 {
     echo name,bytes,digest,line &&
         "${chunk[@]}" "$how" "$archive" |
-        parallel -k -q --pipe --recend '\0' --block "${BLOCK:-65536}" --halt soon,fail=1 "${chunk[@]}" "${rows[@]}"
+        parallel -k -q --pipe --recend '\0' --block "${BLOCK:-65536}" --halt now,fail=1 "${chunk[@]}" "${rows[@]}"
 } >"$out.part" || { rm -f "$out.part"; die "a job failed, or $out.part could not be written: what was printed above says why; there is no $out"; }
 { sync "$out.part" && mv "$out.part" "$out"; } || die "$out could not be written: see that its folder has room"
 "${chunk[@]}" status "$out"

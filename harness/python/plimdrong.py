@@ -219,18 +219,20 @@ def listed(file):
     [b'one', b'two words', b'three']
     """
     with open(file, "rb") as source:
-        end = b"\0" if any(b"\0" in block for block in _blocks(source)) else b"\n"
-        source.seek(0)
-        rest = b""
-        for block in _blocks(source):
+        rest = source.read(8192)
+        # a path is shorter than that: the first zero byte, if there is any, stands in it
+        end = b"\0" if b"\0" in rest else b"\n"
+        for block in iter(lambda: source.read(1 << 20), b""):
             *whole, rest = (rest + block).split(end)
-            yield from filter(None, whole)
-        if rest:
-            yield rest
+            yield from _names(whole, end)
+        yield from _names(rest.split(end), end)
 
 
-def _blocks(source):
-    return iter(lambda: source.read(1 << 20), b"")
+def _names(pieces, end):
+    """The pieces that are names: not the empty ones; a line's end may be CR LF."""
+    if end == b"\n":
+        pieces = (piece[:-1] if piece.endswith(b"\r") else piece for piece in pieces)
+    return filter(None, pieces)
 
 
 class Unreadable(Exception):
@@ -242,6 +244,7 @@ _WHY = {
     errno.EACCES: "you may not read it",
     errno.EPERM: "you may not read it",
     errno.ELOOP: "too many links",
+    errno.ENXIO: "no regular file",  # a socket, which cannot be opened at all
 }
 
 
@@ -251,30 +254,39 @@ def read(name, below=b"", in_list=False):
     A name that is not absolute is one below the folder `below`. Of a name from a list say so by `in_list`.
     """
     path = os.path.join(below, name) if below else name
-    if name.endswith(b"/") and not in_list:
-        raise Unreadable("you may not read this folder")
     try:
-        mode = os.stat(path).st_mode
-        if not stat.S_ISREG(mode):
-            raise Unreadable(_other(path, mode, in_list))
-        # O_NONBLOCK: what has become a FIFO by now does not hold us
+        if name.endswith(b"/") and not in_list:
+            raise Unreadable(_unlisted(path))
+        # O_NONBLOCK: a pipe without a writer is opened all the same, and then seen not to be a regular file
         file = os.open(path, os.O_RDONLY | os.O_CLOEXEC | os.O_NONBLOCK)
-        try:
-            return _contents(file)
-        finally:
-            os.close(file)
     except OSError as why:
-        raise Unreadable(_WHY.get(why.errno, f"reading it failed (error {why.errno})")) from why
+        raise Unreadable(_why(why)) from why
+    try:
+        return _contents(file, path, in_list)
+    except OSError as why:
+        raise Unreadable(_why(why)) from why
+    finally:
+        os.close(file)
 
 
-def _other(path, mode, in_list):
-    if not stat.S_ISDIR(mode):
-        return "no regular file"
-    return "a link to a folder above it" if not in_list and os.path.islink(path) else "a folder"
+def _why(error):
+    return _WHY.get(error.errno, f"reading it failed (error {error.errno})")
 
 
-def _contents(file):
+def _unlisted(path):
+    """Why a folder was not listed: it stands among the names only where it was not."""
+    try:
+        os.scandir(path).close()
+    except OSError as why:
+        if why.errno not in (errno.EACCES, errno.EPERM):
+            return _why(why)
+    return "you may not read this folder"
+
+
+def _contents(file, path, in_list):
     about = os.fstat(file)
+    if stat.S_ISDIR(about.st_mode):
+        raise Unreadable("a link to a folder above it" if not in_list and os.path.islink(path) else "a folder")
     if not stat.S_ISREG(about.st_mode):
         raise Unreadable("no regular file")
     digest = hashlib.sha256()

@@ -94,7 +94,7 @@ fn command() -> Command {
     one_to_one("write", "A table as text (docs/SHEET.md, \"The text of a table\")", "the sheet")
         .about("Writes the sheet of a table's text; what the judge would refuse is refused, with its line")
         .after_help(
-            "Examples:\n  ./plimdrong write examples/litmus/12-torn.txt -o target/torn.sheet\n  \
+            "Examples:\n  ./plimdrong write examples/first.txt -o target/first.sheet\n  \
              printf 'head 1 1 1\\nA1 write sc at 0: 07\\nA1 read sc at 0: 07\\nrow 1 0 0\\n' | ./plimdrong write | ./plimdrong judge\n\n\
              Status: 0 written; 1 the text is no table, or the table no sheet; 2 a file cannot be read or written.",
         )

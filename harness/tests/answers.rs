@@ -95,28 +95,6 @@ fn bits_from_48_up() {
     }
 }
 
-#[allow(dead_code)]
-#[path = "../examples/explain.rs"]
-mod explain;
-
-/// What `explain` says besides: of 25 at edition 1, what edition 1 is for.
-#[test]
-fn explained_by_the_edition() {
-    let torn = |edition: u8| {
-        let text = format!(
-            "head {edition} 3 2\nA1 write unordered at 0: 01 01\nA2 write unordered at 0: 02 02\n\
-             A3 read unordered at 0: 01 02\nrow 2 0 0\nrow 2 1 1"
-        );
-        plimdrong::Table::parse(&text).unwrap().sheet().unwrap()
-    };
-    let besides = |sheet: &[u8]| explain::besides(sheet, &judge(sheet));
-    assert!(besides(&torn(1)).starts_with(" The sheet is of edition 1, which is for integer typed arrays only: "));
-    assert_eq!(judge(&torn(2)).to_string(), "broken 25 2 0 1 -");
-    for sheet in [&torn(2)[..], &[], &[1, 0, 3, 1, 1, 1]] {
-        assert_eq!(besides(sheet), "");
-    }
-}
-
 const PAGE: &str = include_str!("../../docs/SHEET.md");
 
 /// The two examples of docs/SHEET.md, "The format", as they are drawn: each line that begins with a place has bytes.

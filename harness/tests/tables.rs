@@ -9,10 +9,6 @@ use plimdrong::{judge, table_with, write_with, Answer, Buffers, Entry, Event, He
 use second::random::{case, table_case};
 use second::text::to_text;
 
-#[allow(dead_code)]
-#[path = "../examples/table.rs"]
-mod example;
-
 /// The count of each answer is part of the log, and each must have come.
 fn told(what: &str, hits: compare_tables::Hits) {
     println!("{what}, answers and buffers as the second program says\n{hits}");
@@ -308,43 +304,6 @@ fn data_of_65536_bytes_and_more() {
         // neither where other entries are at fault, and stand before
         let early = Table { events: vec![Event::marker(9), table.events[0].clone()], ..table };
         assert_eq!(early.sheet().unwrap_err().number, if length + 22 > 4096 { 1 } else { 6 }, "{length}");
-    }
-}
-
-/// The example program: text to sheet and back, and its error lines.
-#[test]
-fn the_example_program() {
-    let dir = env!("CARGO_TARGET_TMPDIR");
-    let file = |name: &str, bytes: &[u8]| {
-        let path = format!("{dir}/{name}");
-        std::fs::write(&path, bytes).unwrap();
-        path
-    };
-    let run = |words: &[&str]| example::run(&words.iter().map(|w| w.to_string()).collect::<Vec<_>>());
-    let first = concat!(env!("CARGO_MANIFEST_DIR"), "/../examples/first.sheet");
-    let text = run(&["--text", first]).unwrap();
-    assert_eq!(text, b"head 1 1 1\n0 init at 0: 00\n1 A1 read unordered at 0: 00\nrow 1 0 0\n");
-    let typed = file("typed.txt", &text);
-    assert_eq!(run(&[&typed]).unwrap(), std::fs::read(first).unwrap());
-
-    let says = |words: &[&str], status: i32, line: String| {
-        let (s, l) = run(words).unwrap_err();
-        assert!(s == status && l.starts_with(&line), "{s} {l}");
-    };
-    let wrong = file("wrong.txt", b"head 1 1 1\n\nA1 wirte sc at 0: 01\n");
-    says(&[&wrong], 1, format!("{wrong}:3: 'wirte' is no kind: write read,"));
-    let row = file("row.txt", b"row 0 0 0\nhead 1 1 1\nA1 read sc at 0: 01\n");
-    says(&[&row], 1, format!("{row}:1: row 0 (row 0 0 0): A row's content is wrong."));
-    let head = file("head.txt", b"# a head alone\nhead 1 1 1\n");
-    says(&[&head], 1, format!("{head}: the table: No event reads,"));
-    says(&[&file("sheet.txt", &[1, 0, 3, 255])], 1, format!("{dir}/sheet.txt: this is no text: `table --text "));
-    says(&[first], 1, format!("{first}: this is no text: `table --text "));
-    let cut = file("cut.sheet", &std::fs::read(first).unwrap()[..24]);
-    says(&["--text", &cut], 1, format!("{cut}: refused 11 at 15: A byte that was read has no row."));
-    says(&["none.txt"], 2, "none.txt: ".to_string());
-    says(&["--text", "none.sheet"], 2, "none.sheet: ".to_string());
-    for words in [&[][..], &["--text"], &["--help"], &["a", "b"], &["--text", "a", "b"]] {
-        says(words, 2, "usage: table FILE.txt".to_string());
     }
 }
 

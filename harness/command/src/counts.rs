@@ -45,6 +45,10 @@ impl Counts {
         *self.0.entry(class).or_default() += 1;
     }
 
+    pub fn add_all(&mut self, more: &Counts) {
+        more.0.iter().for_each(|(class, n)| *self.0.entry(*class).or_default() += n);
+    }
+
     pub fn of(&self, class: Class) -> u64 {
         self.0.get(&class).copied().unwrap_or(0)
     }

@@ -53,7 +53,7 @@ impl fmt::Display for Unreadable {
             Unreadable::CutShort => "the archive ends inside it",
             Unreadable::Damaged => "the archive is damaged from here on",
             Unreadable::NoEnd => "the archive ends without its end mark",
-            Unreadable::LinkInArchive => "a link, whose bytes stand elsewhere",
+            Unreadable::LinkInArchive => "a link: its bytes stand elsewhere",
             Unreadable::Failed(number) => return write!(f, "reading it failed (error {number})"),
         })
     }

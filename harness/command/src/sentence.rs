@@ -45,3 +45,37 @@ pub fn named(answer: &Answer) -> Vec<(&'static str, u8)> {
         }
     }
 }
+
+#[cfg(test)]
+mod tests {
+    use super::{besides, sentences};
+    use plimdrong::{judge, Table};
+
+    fn torn(edition: u8) -> Vec<u8> {
+        let text = format!(
+            "head {edition} 3 2\nA1 write unordered at 0: 01 01\nA2 write unordered at 0: 02 02\n\
+             A3 read unordered at 0: 01 02\nrow 2 0 0\nrow 2 1 1"
+        );
+        Table::parse(&text).unwrap().sheet().unwrap()
+    }
+
+    /// Of 25 at edition 1, what edition 1 is for.
+    #[test]
+    fn explained_by_the_edition() {
+        let besides = |sheet: &[u8]| besides(sheet, &judge(sheet));
+        assert!(besides(&torn(1)).starts_with(" The sheet is of edition 1, which is for integer typed arrays only: "));
+        assert_eq!(judge(&torn(2)).to_string(), "broken 25 2 0 1 -");
+        for sheet in [&torn(2)[..], &[], &[1, 0, 3, 1, 1, 1]] {
+            assert_eq!(besides(sheet), "");
+        }
+    }
+
+    #[test]
+    fn named_events_are_told() {
+        let told = sentences(&torn(2), &judge(&torn(2)));
+        assert!(told.ends_with(
+            "(rule 25).\n  2 (reader): A3 read unordered at 0: 01 02\n  0 (writer): A1 write unordered at 0: 01 01\n  \
+             1 (other): A2 write unordered at 0: 02 02\n"
+        ));
+    }
+}

@@ -40,6 +40,11 @@ pub fn carry(matches: &ArgMatches, binary: bool, make: impl Fn(&str, &[u8]) -> M
     let (file, output) = (of("file"), of("output"));
     match all(file).and_then(|bytes| make(&called(file), &bytes)).and_then(|made| put(output, binary, &made)) {
         Ok(()) => DONE,
+        // what is wrong with a text begins with its file and line, so that an editor finds it
+        Err((FOUND, why)) => {
+            eprintln!("{why}");
+            FOUND
+        }
         Err((status, why)) => {
             complain(why);
             status
@@ -89,7 +94,7 @@ fn command() -> Command {
     one_to_one("write", "A table as text (docs/SHEET.md, \"The text of a table\")", "the sheet")
         .about("Writes the sheet of a table's text; what the judge would refuse is refused, with its line")
         .after_help(
-            "Examples:\n  ./plimdrong write examples/litmus/12-torn.txt -o target/torn.sheet\n  \
+            "Examples:\n  ./plimdrong write examples/first.txt -o target/first.sheet\n  \
              printf 'head 1 1 1\\nA1 write sc at 0: 07\\nA1 read sc at 0: 07\\nrow 1 0 0\\n' | ./plimdrong write | ./plimdrong judge\n\n\
              Status: 0 written; 1 the text is no table, or the table no sheet; 2 a file cannot be read or written.",
         )
@@ -111,4 +116,26 @@ fn sheet(file: &str, bytes: &[u8]) -> Made {
         Some(line) => (FOUND, format!("{file}:{line}: {refused}")),
         None => (FOUND, format!("{file}: {refused}")),
     })
+}
+
+#[cfg(test)]
+mod tests {
+    use super::sheet;
+
+    #[test]
+    fn sheets_and_error_lines() {
+        let first = std::fs::read("../../examples/first.sheet").unwrap();
+        let text = b"head 1 1 1\n0 init at 0: 00\n1 A1 read unordered at 0: 00\nrow 1 0 0\n";
+        assert_eq!(sheet("t", text).unwrap(), first);
+        for (bytes, line) in [
+            (&b"head 1 1 1\n\nA1 wirte sc at 0: 01\n"[..], "t:3: 'wirte' is no kind: write read,"),
+            (b"row 0 0 0\nhead 1 1 1\nA1 read sc at 0: 01\n", "t:1: row 0 (row 0 0 0): A row's content is wrong."),
+            (b"# a head alone\nhead 1 1 1\n", "t: the table: No event reads,"),
+            (&[1, 0, 3, 255], "t: this is no text: `plimdrong read t` "),
+            (&first, "t: this is no text: `plimdrong read t` "),
+        ] {
+            let (status, why) = sheet("t", bytes).unwrap_err();
+            assert!(status == 1 && why.starts_with(line), "{why}");
+        }
+    }
 }

@@ -1,7 +1,7 @@
 //! CSV by RFC 4180, in bytes: a name has no encoding.
 
 use crate::record::Record;
-use std::io::{self, BufRead};
+use std::io::{self, BufRead, Write};
 
 /// The first line of an audit's CSV.
 pub const HEADER: &[u8] = b"name,bytes,digest,line\n";
@@ -22,23 +22,18 @@ pub fn put(field: &[u8], to: &mut Vec<u8>) {
 }
 
 /// A record's line: name, bytes, digest, line.
-pub fn line(record: &Record) -> Vec<u8> {
+pub fn line(record: &Record, row: &mut Vec<u8>) {
     const DIGITS: &[u8; 16] = b"0123456789abcdef";
-    let mut row = Vec::with_capacity(record.name.len() + 128);
-    put(&record.name, &mut row);
+    // writing to a vector does not fail, and what is said has nothing to quote
+    put(&record.name, row);
     row.push(b',');
-    match &record.bytes {
-        Some((length, digest)) => {
-            row.extend(length.to_string().bytes());
-            row.push(b',');
-            row.extend(digest.iter().flat_map(|b| [DIGITS[usize::from(b >> 4)], DIGITS[usize::from(b & 15)]]));
-        }
-        None => row.push(b','),
+    if let Some((length, digest)) = &record.bytes {
+        let _ = write!(row, "{length},");
+        row.extend(digest.iter().flat_map(|b| [DIGITS[usize::from(b >> 4)], DIGITS[usize::from(b & 15)]]));
+    } else {
+        row.push(b',');
     }
-    row.push(b',');
-    put(record.said.to_string().as_bytes(), &mut row);
-    row.push(b'\n');
-    row
+    let _ = writeln!(row, ",{}", record.said);
 }
 
 /// The lines of a CSV.

@@ -20,8 +20,9 @@ use std::os::unix::ffi::OsStrExt;
 use std::path::Path;
 use std::sync::mpsc::{sync_channel, Receiver, SyncSender};
 
-/// Records that are judged together, and how many such lots wait between two steps.
-const LOT: usize = 1024;
+/// Records that are judged together, in parts, and how many such lots wait between two steps.
+const LOT: usize = 2048;
+const PART: usize = 64;
 const WAITING: usize = 4;
 
 /// Where the records go.
@@ -60,25 +61,31 @@ impl Sinks {
         Ok(sinks)
     }
 
-    fn told(mut self, lots: Receiver<Vec<(Record, Vec<u8>)>>, bar: &ProgressBar) -> Result<Told, Failure> {
+    /// Whether every record is looked at again, and not only those that the page names.
+    fn wants_all(&self) -> bool {
+        self.report.is_some() || self.compare.is_some()
+    }
+
+    fn told(mut self, lots: Receiver<Vec<Judged>>, bar: &ProgressBar) -> Result<Told, Failure> {
         let (mut counts, mut sourceless, mut lost) = (Counts::default(), vec![], vec![]);
-        for lot in lots {
-            bar.inc(lot.len() as u64);
-            for (record, row) in &lot {
-                let class = record.said.class();
-                counts.add(class);
-                if let Some(csv) = &mut self.csv {
-                    csv.put(row)?;
-                }
-                if class == Class::Refused(11) {
-                    if let Some(csv) = &mut self.sourceless {
-                        csv.put(row)?;
-                    }
-                    if sourceless.len() < NAMED {
-                        sourceless.push(record.name.clone());
-                    }
-                }
+        for part in lots.into_iter().flatten() {
+            bar.inc(part.counts.all());
+            counts.add_all(&part.counts);
+            if let Some(csv) = &mut self.csv {
+                csv.put(&part.rows)?;
+            }
+            for record in &part.records {
                 match &record.said {
+                    Said::Answer(Answer::Refused { number: 11, .. }) => {
+                        if let Some(csv) = &mut self.sourceless {
+                            let mut row = vec![];
+                            csv::line(record, &mut row);
+                            csv.put(&row)?;
+                        }
+                        if sourceless.len() < NAMED {
+                            sourceless.push(record.name.clone());
+                        }
+                    }
                     Said::Unreadable(why) if lost.len() < NAMED => lost.push((record.name.clone(), why.to_string())),
                     _ => {}
                 }
@@ -98,19 +105,19 @@ impl Sinks {
 /// All records of the sources, in order, to the sinks; where an ending is given, those alone whose names end so.
 pub fn judged(sources: &[Source], ending: &[u8], sinks: Sinks, bar: &ProgressBar) -> Result<Told, Failure> {
     let (items_to, items) = sync_channel::<Vec<Item>>(WAITING);
-    let (rows_to, rows) = sync_channel::<Vec<(Record, Vec<u8>)>>(WAITING);
-    let pictures = sinks.report.is_some();
+    let (parts_to, parts) = sync_channel::<Vec<Judged>>(WAITING);
+    let wants = Wants { rows: sinks.csv.is_some(), all: sinks.wants_all(), pictures: sinks.report.is_some() };
     std::thread::scope(|scope| {
         let lister = scope.spawn(move || listed(sources, ending, items_to));
-        let teller = scope.spawn(move || sinks.told(rows, bar));
+        let teller = scope.spawn(move || sinks.told(parts, bar));
         for lot in items {
-            let rows = lot.into_par_iter().with_min_len(16).map(|item| row(item, pictures)).collect();
+            let parts = lot.into_par_iter().chunks(PART).map(|part| Judged::of(part, &wants)).collect();
             // where nobody takes them any more the teller has failed, and says why
-            if rows_to.send(rows).is_err() {
+            if parts_to.send(parts).is_err() {
                 break;
             }
         }
-        drop(rows_to);
+        drop(parts_to);
         let told = teller.join().expect("the teller does not panic");
         let listed = lister.join().expect("the lister does not panic");
         told.and_then(|told| listed.map(|left_out| Told { left_out, ..told }))
@@ -149,9 +156,42 @@ thread_local! {
     static OWN: RefCell<(Judge, Box<[u8]>)> = RefCell::new((Judge::new(), vec![0; fetch::MOST].into()));
 }
 
-/// An item judged, and its line of the CSV.
-fn row(item: Item, pictures: bool) -> (Record, Vec<u8>) {
-    let record = OWN.with(|own| {
+/// What the teller is to get.
+struct Wants {
+    rows: bool,
+    all: bool,
+    pictures: bool,
+}
+
+/// A part of a lot, judged.
+struct Judged {
+    counts: Counts,
+    /// Its lines of the CSV, if wanted.
+    rows: Vec<u8>,
+    /// Those that are looked at again: all, or those that the page names.
+    records: Vec<Record>,
+}
+
+impl Judged {
+    fn of(items: Vec<Item>, wants: &Wants) -> Judged {
+        let mut part = Judged { counts: Counts::default(), rows: vec![], records: vec![] };
+        for item in items {
+            let record = judged_item(item, wants.pictures);
+            let class = record.said.class();
+            part.counts.add(class);
+            if wants.rows {
+                csv::line(&record, &mut part.rows);
+            }
+            if wants.all || matches!(class, Class::Refused(11) | Class::Unreadable) {
+                part.records.push(record);
+            }
+        }
+        part
+    }
+}
+
+fn judged_item(item: Item, pictures: bool) -> Record {
+    OWN.with(|own| {
         let (judge, room) = &mut *own.borrow_mut();
         match item {
             Item::File(name) => match fetch::record(Path::new(OsStr::from_bytes(&name)), room) {
@@ -164,9 +204,7 @@ fn row(item: Item, pictures: bool) -> (Record, Vec<u8>) {
             }
             Item::Lost(name, why) => lost(name, why),
         }
-    });
-    let line = csv::line(&record);
-    (record, line)
+    })
 }
 
 fn lost(name: Vec<u8>, why: Unreadable) -> Record {

@@ -2,7 +2,7 @@
 //! is the same every time; what cannot be read is given too.
 
 use super::sort::{Sorted, Sorter};
-use crate::fetch::{front, rest, MOST};
+use crate::fetch::{rest, MOST};
 use crate::record::Unreadable;
 use std::ffi::OsStr;
 use std::fs::{File, ReadDir};
@@ -316,9 +316,9 @@ fn member(entry: &mut ::tar::Entry<impl Read>) -> Option<Item> {
         _ => return Some(Item::Lost(name, Unreadable::NoRegularFile)),
     }
     let promised = entry.size();
-    let mut sheet = vec![];
-    let got = front(entry, &mut sheet).and_then(|()| {
-        Ok(if sheet.len() < MOST { (sheet.len() as u64, None) } else { rest(entry, &sheet).map(|w| (w.0, Some(w)))? })
+    let mut sheet = vec![0; promised.min(MOST as u64) as usize];
+    let got = entry.read_exact(&mut sheet).and_then(|()| {
+        Ok(if sheet.len() < MOST { (promised, None) } else { rest(entry, &sheet).map(|w| (w.0, Some(w)))? })
     });
     Some(match got {
         Ok((length, whole)) if length == promised => Item::Bytes { name, sheet, whole },

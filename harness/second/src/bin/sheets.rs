@@ -2,6 +2,7 @@
 //!
 //!     sheets --seed S --count N [--max-events K] --format hex|deftest-parse|batch|dump
 //!     sheets files DIR SEED COUNT   random sheets, a file each
+//!     sheets archive DIR SEED COUNT   the same with up to 16 events, a thousand a folder; prints NAME, a tab, the line of each
 //!     sheets tsv FILE            check the sheets of a .tsv against the second program
 //!     sheets tsv FILE --batch    its sheets, each after its length in two bytes
 //!     sheets tsv FILE --lines    its expected lines
@@ -17,6 +18,7 @@ use std::io::Write;
 
 const USAGE: &str = "usage: sheets --seed S --count N [--max-events K] --format hex|deftest-parse|batch|dump
        sheets files DIR SEED COUNT
+       sheets archive DIR SEED COUNT
        sheets tsv FILE [--batch|--lines]
        sheets litmus SRC DIR [--check]
        sheets text FILE
@@ -27,6 +29,7 @@ fn main() {
     let words: Vec<&str> = args.iter().map(|a| a.as_str()).collect();
     let done = match words[..] {
         ["files", dir, seed, count] => files(dir, seed, count),
+        ["archive", dir, seed, count] => archive(dir, seed, count),
         ["tsv", file] => tsv_check(file),
         ["tsv", file, "--batch"] => tsv(file).and_then(|all| all.iter().try_for_each(|t| out(&batched(&t.sheet)))),
         ["tsv", file, "--lines"] => {
@@ -95,13 +98,33 @@ fn random_sheets(words: &[&str]) -> Result<(), String> {
     stdout.flush().map_err(|e| e.to_string())
 }
 
+fn number(word: &str) -> Result<u64, String> {
+    word.parse().map_err(|_| format!("{word}: no number"))
+}
+
 fn files(dir: &str, seed: &str, count: &str) -> Result<(), String> {
-    let number = |word: &str| word.parse::<u64>().map_err(|_| format!("{word}: no number"));
     for index in 0..number(count)? {
         let c = random::case(number(seed)?, index, 6);
         std::fs::write(format!("{dir}/{}", c.name), &c.sheet).map_err(|e| format!("{dir}/{}: {e}", c.name))?;
     }
     Ok(())
+}
+
+fn archive(dir: &str, seed: &str, count: &str) -> Result<(), String> {
+    let seed = number(seed)?;
+    let mut stdout = std::io::BufWriter::new(std::io::stdout().lock());
+    for index in 0..number(count)? {
+        let c = random::case(seed, index, 16);
+        let folder = format!("{dir}/{:03}", index / 1000);
+        if index % 1000 == 0 {
+            std::fs::create_dir_all(&folder).map_err(|e| format!("{folder}: {e}"))?;
+        }
+        let name = format!("{folder}/{}.sheet", c.name);
+        std::fs::write(&name, &c.sheet).map_err(|e| format!("{name}: {e}"))?;
+        let line = judge(&c.sheet, MAX_SCRATCH, MAX_EVENTS).line();
+        writeln!(stdout, "{name}\t{line}").map_err(|e| e.to_string())?;
+    }
+    stdout.flush().map_err(|e| e.to_string())
 }
 
 /// What reading gives: `refused`, number, place; or a word and agents, memory size, inits, events (inits among them),

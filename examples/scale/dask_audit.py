@@ -183,7 +183,7 @@ def asked(arguments):
     parser = argparse.ArgumentParser(description="Audits an archive through Dask: a line of CSV for each record.")
     parser.add_argument("--scheduler", required=True, help="its address, as tcp://127.0.0.1:8786")
     parser.add_argument("--out", required=True, help="the CSV; it is there only when it is whole")
-    parser.add_argument("--chunk", type=int, default=1000, help="records a chunk")
+    parser.add_argument("--chunk", type=int, default=4000, help="records a chunk")
     parser.add_argument("--window", type=int, default=64, help="chunks under way at a time")
     parser.add_argument("--tries", type=int, default=5, help="how often a chunk may fail")
     parser.add_argument("--wait", type=float, default=600, help="seconds to wait for a scheduler")
@@ -200,7 +200,7 @@ def main(arguments):
     options = asked(arguments)
     names = (plimdrong.listed if options.list else plimdrong.names)(options.archive)
     # a lost connection is told in a line; its traces of many lines help nobody
-    logging.getLogger("distributed").setLevel(logging.CRITICAL)
+    logging.disable(logging.ERROR)
     audit = Audit(options, chunks_of(names, options.chunk))
     done, worst = 0, None
     part = options.out + ".part"

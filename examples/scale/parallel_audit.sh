@@ -23,11 +23,11 @@ chunk=(env PLIMDRONG="$program" "$python" "$root/examples/scale/chunk.py")
 
 # The command is built, where it must be, by one run of it and not by all at once.
 "$program" judge --batch </dev/null || die "$program judge --batch does not run: what it printed above says why"
-# 65,536 bytes of names a job: a thousand records and more
+# 262,144 bytes of names a job: some thousand records, which it has in memory
 {
     echo name,bytes,digest,line &&
         "${chunk[@]}" "$how" "$archive" |
-        parallel -k -q --pipe --recend '\0' --block "${BLOCK:-65536}" --halt now,fail=1 "${chunk[@]}" "${rows[@]}"
+        parallel -k -q --pipe --recend '\0' --block "${BLOCK:-262144}" --halt now,fail=1 "${chunk[@]}" "${rows[@]}"
 } >"$out.part" || { rm -f "$out.part"; die "a job failed, or $out.part could not be written: what was printed above says why; there is no $out"; }
 { sync "$out.part" && mv "$out.part" "$out"; } || die "$out could not be written: see that its folder has room"
 "${chunk[@]}" status "$out"

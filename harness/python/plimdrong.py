@@ -173,39 +173,40 @@ def names(folder):
     """
     folder = os.fsencode(folder)
     base = folder.rstrip(b"/")
-    return _below(folder, b"" if folder and base == b"." else base + b"/", [])
+    return _below(folder, b"" if base == b"." else base + b"/", [])
 
 
 def _below(path, prefix, above):
-    """The records of the folder `path`, with `prefix` before each name; `above` is who its folders above are."""
+    """The records of the folder `path`, with `prefix` before each name; `above` is which folders stand above it."""
     try:
-        entries = sorted(_entries(path))
-        here = os.stat(path)
+        own = _which(os.stat(path))
+        entries = None if own in above else sorted(_entries(path))
     except OSError:
-        yield prefix or b"./"
+        yield prefix
         return
-    above = above + [(here.st_dev, here.st_ino)]
-    for entry, target in entries:
-        if not entry.endswith(b"/") or target in above:
-            yield prefix + entry.rstrip(b"/")
+    if entries is None:
+        yield prefix[:-1]
+        return
+    for entry in entries:
+        if entry.endswith(b"/"):
+            yield from _below(prefix + entry[:-1], prefix + entry, above + [own])
         else:
-            yield from _below(prefix + entry[:-1], prefix + entry, above)
+            yield prefix + entry
+
+
+def _which(about):
+    return about.st_dev, about.st_ino
 
 
 def _entries(path):
-    """The entries of a folder: the name, with a slash where it is a folder, so that they sort as the names below it do; and
-    of a link to a folder which folder that is."""
+    """The names in a folder, those of folders with a slash at their end: so they sort as the whole names do."""
     with os.scandir(path) as found:
         for entry in found:
-            target = None
             try:
                 folder = entry.is_dir()
-                if folder and entry.is_symlink():
-                    there = entry.stat()
-                    target = (there.st_dev, there.st_ino)
             except OSError:
                 folder = False
-            yield (entry.name + b"/" if folder else entry.name), target
+            yield entry.name + b"/" if folder else entry.name
 
 
 def listed(file):
@@ -283,10 +284,19 @@ def _unlisted(path):
     return "you may not read this folder"
 
 
+def _stands_above(about, path):
+    """Whether a folder is one of those that its own path goes through."""
+    while os.path.dirname(path) != path:
+        path = os.path.dirname(path)
+        if _which(os.stat(path or b".")) == _which(about):
+            return True
+    return False
+
+
 def _contents(file, path, in_list):
     about = os.fstat(file)
     if stat.S_ISDIR(about.st_mode):
-        raise Unreadable("a link to a folder above it" if not in_list and os.path.islink(path) else "a folder")
+        raise Unreadable("a link to a folder above it" if not in_list and _stands_above(about, path) else "a folder")
     if not stat.S_ISREG(about.st_mode):
         raise Unreadable("no regular file")
     digest = hashlib.sha256()

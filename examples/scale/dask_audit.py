@@ -68,6 +68,7 @@ class Audit:
         self.client = None
         self.meetings = 0
         self.lost = 0  # connections, since the last answer
+        self.alone = False  # whether it was said that there is no worker
         self.run = f"{os.getpid():x}-{time.time_ns():x}"
 
     # -- the scheduler
@@ -142,15 +143,21 @@ class Audit:
                 if self.client.status != "running":
                     raise Gone
                 try:
-                    wait(future, timeout=1)
+                    wait(future, timeout=5)
                 except TimeoutError:
-                    pass
+                    self.look_for_workers()
             if future.status == "finished":
                 return future.result(timeout=60)
             if future.status == "error":
                 self.failed(index, future.exception())
             else:  # cancelled or lost: what a client makes of its futures when the scheduler goes
                 raise Gone
+
+    def look_for_workers(self):
+        """Says once where there is none: the run then waits for the first."""
+        if not self.alone and not self.client.scheduler_info()["workers"]:
+            self.alone = True
+            say(f"the scheduler has no worker; start one, as: PYTHONPATH=$PWD/harness/python dask-worker {self.options.scheduler}")
 
     def answers(self):
         """The answers of all chunks, in order."""

@@ -15,6 +15,7 @@ die() { complain "$*"; exit 2; }
 [ $# -eq 2 ] || die "usage: parallel_audit.sh OUT.csv FOLDER|LIST"
 command -v parallel >/dev/null || die "there is no parallel on the PATH: install GNU parallel, on Debian: apt-get install parallel"
 out=$1 archive=$2
+[ -r "$archive" ] || die "$archive: no folder or list that you may read: check the name"
 if [ -d "$archive" ]; then how=names rows=(rows); else how=listed rows=(rows --list); fi
 # where jobs run elsewhere, the environment does not go with them: the command goes as an argument, by its whole path
 program=$(readlink -f "${PLIMDRONG:-$root/plimdrong}")

@@ -1,1 +1,10 @@
-fn main() { println!("{}", plimdrong::judge(&[])); }
+#![allow(dead_code)] // until the subcommands call them
+mod counts;
+mod draw;
+mod layout;
+mod names;
+mod record;
+
+fn main() {
+    println!("{}", plimdrong::judge(&[]));
+}

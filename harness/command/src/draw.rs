@@ -10,6 +10,13 @@ use plimdrong::{mode, Answer, Event, Rule, Table};
 use std::collections::BTreeSet;
 use std::fmt::Write;
 
+/// Writes to a `String`, which takes all that is written.
+macro_rules! put {
+    ($s:expr, $($text:tt)*) => {{
+        let _ = write!($s, $($text)*);
+    }};
+}
+
 /// A picture of a well-formed sheet's table and its answer. `name` is the sheet's, `id` stands in front of every id, so
 /// that many pictures can stand in one page: letters, digits and hyphens.
 pub fn picture(table: &Table, answer: &Answer, name: &str, id: &str) -> String {
@@ -48,11 +55,13 @@ struct Line {
     named: bool,
 }
 
-/// A box's text: what the event does, its data, and what is to be noted.
+/// A box's text in lines: what the event does, its data, whether it may tear though the rule says otherwise, and which
+/// byte came from which writer.
 struct Words {
     does: String,
     data: Vec<String>,
-    notes: Vec<String>,
+    may_tear: bool,
+    sources: Vec<String>,
 }
 
 struct Picture<'a> {
@@ -134,19 +143,22 @@ impl Words {
         let (does, data) = text.split_once(':').unwrap_or((&text, ""));
         let agent = format!("A{} ", event.agent);
         let does = does.strip_prefix(&agent).unwrap_or(does).replace(" may-tear", "");
-        let tears = may_tear(event).then(|| "may tear".to_string());
-        Words { does, data: data_lines(data), notes: tears.into_iter().chain(sources(table, e)).collect() }
+        Words { does, data: data_lines(data), may_tear: may_tear(event), sources: sources(table, e) }
+    }
+
+    fn notes(&self) -> impl Iterator<Item = &str> {
+        self.may_tear.then_some("may tear").into_iter().chain(self.sources.iter().map(|source| source.as_str()))
     }
 
     fn lines(&self) -> usize {
-        1 + self.data.len() + self.notes.len()
+        1 + self.data.len() + self.notes().count()
     }
 
     fn width(&self, event: usize, role: Option<&str>) -> i32 {
-        let first = pixels(event.to_string().len() + 1 + self.does.chars().count(), MONO);
+        let first = pixels(event.to_string().len() + 1 + self.does.len(), MONO);
         let first = first + role.map_or(0, |role| 14 + pixels(role.len(), ROLE));
         let data = self.data.iter().map(|line| pixels(line.chars().count(), MONO));
-        let notes = self.notes.iter().map(|line| pixels(line.chars().count(), NOTE));
+        let notes = self.notes().map(|line| pixels(line.len(), NOTE));
         2 * PAD.0 + data.chain(notes).fold(first.max(96), i32::max)
     }
 }
@@ -230,10 +242,17 @@ impl<'a> Picture<'a> {
         let width = self.layout.width.max(40 + pixels(line.len(), HEADING)).max(480);
         let height = self.layout.height;
         let mut s = String::with_capacity(8192);
-        put(&mut s, format_args!("<svg xmlns='http://www.w3.org/2000/svg' viewBox='0 0 {width} {height}' width='{width}' height='{height}' role='img' aria-labelledby='{id}-title {id}-desc' font-family='system-ui, sans-serif' font-size='12'>\n"));
-        put(&mut s, format_args!("<title id='{id}-title'>{}: {line}</title>\n", escaped(name)));
-        put(&mut s, format_args!("<desc id='{id}-desc'>{}</desc>\n", escaped(&self.description())));
-        put(&mut s, format_args!("<rect width='{width}' height='{height}' fill='#fff'/>\n"));
+        put!(
+            s,
+            "<svg xmlns='http://www.w3.org/2000/svg' viewBox='0 0 {width} {height}' width='{width}' height='{height}'"
+        );
+        put!(
+            s,
+            " role='img' aria-labelledby='{id}-title {id}-desc' font-family='system-ui, sans-serif' font-size='12'>\n"
+        );
+        put!(s, "<title id='{id}-title'>{}: {line}</title>\n", escaped(name));
+        put!(s, "<desc id='{id}-desc'>{}</desc>\n", escaped(&self.description()));
+        put!(s, "<rect width='{width}' height='{height}' fill='#fff'/>\n");
         self.heading(&mut s, name, &line, width);
         self.columns(&mut s);
         self.all_lines(&mut s);
@@ -257,57 +276,39 @@ impl<'a> Picture<'a> {
         let agents = if agents == 1 { "1 agent".to_string() } else { format!("{agents} agents") };
         let mut text = format!("{} {agents}, {} events. {}", self.answer.explain(), self.order.len(), self.reported());
         for &e in &self.order {
-            put(&mut text, format_args!(" Event {e}: {}", self.table.events[e]));
-            self.words[e].notes.iter().for_each(|note| put(&mut text, format_args!("; {note}")));
-            self.roles[e].iter().for_each(|role| put(&mut text, format_args!("; {role}")));
+            put!(text, " Event {e}: {}", self.table.events[e]);
+            self.words[e].sources.iter().for_each(|source| put!(text, "; {source}"));
+            self.roles[e].iter().for_each(|role| put!(text, "; {role}"));
             text.push('.');
         }
         for pair in &self.table.pairs {
-            put(&mut text, format_args!(" A pair: marker {} before marker {}.", pair.first, pair.second));
+            put!(text, " A pair: marker {} before marker {}.", pair.first, pair.second);
         }
         text
     }
 
     fn heading(&self, s: &mut String, name: &str, line: &str, width: i32) {
         let room = ((width - 40) / 8).max(20) as usize;
-        let name = escaped(&clipped(name, room));
-        put(s, format_args!("<text x='20' y='24' fill='#555'>{name}</text>\n"));
-        put(s, format_args!("<text x='20' y='46' fill='#111' font-size='16' font-weight='bold'>{line}</text>\n"));
-        put(s, format_args!("<text x='20' y='66' fill='#555'>{}</text>\n", self.reported()));
+        put!(s, "<text x='20' y='24' fill='#555'>{}</text>\n", escaped(&clipped(name, room)));
+        put!(s, "<text x='20' y='46' fill='#111' font-size='16' font-weight='bold'>{line}</text>\n");
+        put!(s, "<text x='20' y='66' fill='#555'>{}</text>\n", self.reported());
     }
 
     fn columns(&self, s: &mut String) {
-        let height = self.layout.height - BOTTOM - TOP + 30;
+        let (top, height) = (TOP - 24, self.layout.height - BOTTOM - TOP + 30);
         for (&agent, &(x, width)) in self.agents.iter().zip(&self.layout.columns) {
             let name = if agent == 0 { "inits".to_string() } else { format!("agent {agent}") };
             let (left, wide) = (x - 7, width + 14);
-            put(
-                s,
-                format_args!(
-                    "<rect x='{left}' y='{}' width='{wide}' height='{height}' rx='8' fill='#f0f2f5'/>",
-                    TOP - 24
-                ),
-            );
-            put(s, format_args!("<text x='{x}' y='{}' fill='#444' font-weight='bold'>{name}</text>\n", TOP - 8));
+            put!(s, "<rect x='{left}' y='{top}' width='{wide}' height='{height}' rx='8' fill='#f0f2f5'/>");
+            put!(s, "<text x='{x}' y='{}' fill='#444' font-weight='bold'>{name}</text>\n", TOP - 8);
         }
     }
 
     fn all_lines(&self, s: &mut String) {
-        for (kind, named, stroke) in [
-            (Kind::Row, false, Stroke { colour: "#555", width: "1.3", dashes: "" }),
-            (Kind::Pair, false, Stroke { colour: "#1d4fd7", width: "1.5", dashes: " stroke-dasharray='6 4'" }),
-            (Kind::Row, true, Stroke { colour: "#c00", width: "2.8", dashes: "" }),
-        ] {
-            let paths: Vec<&[(i32, i32); 4]> = self
-                .lines
-                .iter()
-                .zip(&self.layout.lines)
-                .filter(|(line, _)| line.kind == kind && line.named == named)
-                .map(|(_, points)| points)
-                .collect();
-            if !paths.is_empty() {
-                stroke.put(s, &paths);
-            }
+        for (kind, named, stroke) in [(Kind::Row, false, ROW), (Kind::Pair, false, PAIR), (Kind::Row, true, NAMED)] {
+            let lines = self.lines.iter().zip(&self.layout.lines);
+            let lines = lines.filter(|(line, _)| line.kind == kind && line.named == named);
+            stroke.put(s, &lines.map(|(_, points)| *points).collect::<Vec<_>>());
         }
     }
 
@@ -322,26 +323,23 @@ impl<'a> Picture<'a> {
     fn one_box(&self, s: &mut String, e: usize, place: &Rect) {
         let Rect { x, y, width, height } = *place;
         let words = &self.words[e];
-        let (edge, thick) = if self.roles[e].is_some() { ("#c00", "3") } else { ("#8a8f98", "1") };
-        put(s, format_args!("<g><title>{e} {}</title>", escaped(&self.table.events[e].to_string())));
-        put(s, format_args!("<rect x='{x}' y='{y}' width='{width}' height='{height}' rx='5' fill='#fff' stroke='{edge}' stroke-width='{thick}'/>"));
-        let left = x + PAD.0;
+        let edge = if self.roles[e].is_some() { NAMED_EDGE } else { "stroke='#8a8f98'" };
+        put!(s, "<g><title>{e} {}</title>", escaped(&self.table.events[e].to_string()));
+        put!(s, "<rect x='{x}' y='{y}' width='{width}' height='{height}' rx='5' fill='#fff' {edge}/>");
+        let (left, right) = (x + PAD.0, x + width - PAD.0);
         let mut base = y + (height - words.lines() as i32 * LINE) / 2 + 12;
-        put(
-            s,
-            format_args!(
-                "<text x='{left}' y='{base}' fill='#111'><tspan font-weight='bold'>{e}</tspan> {}</text>",
-                escaped(&words.does)
-            ),
-        );
+        put!(s, "<text x='{left}' y='{base}' fill='#111'><tspan font-weight='bold'>{e}</tspan> {}</text>", words.does);
         if let Some(role) = self.roles[e] {
-            let right = x + width - PAD.0;
-            put(s, format_args!("<text x='{right}' y='{base}' fill='#c00' font-size='11' font-weight='bold' text-anchor='end'>{role}</text>"));
+            let style = "fill='#c00' font-size='11' font-weight='bold' text-anchor='end'";
+            put!(s, "<text x='{right}' y='{base}' {style}>{role}</text>");
         }
-        let data = words.data.iter().map(|line| (line, "fill='#111'"));
-        for (line, style) in data.chain(words.notes.iter().map(|line| (line, "fill='#555' font-size='11'"))) {
+        for line in &words.data {
             base += LINE;
-            put(s, format_args!("<text x='{left}' y='{base}' {style}>{}</text>", escaped(line)));
+            put!(s, "<text x='{left}' y='{base}' fill='#111'>{}</text>", escaped(line));
+        }
+        for line in words.notes() {
+            base += LINE;
+            put!(s, "<text x='{left}' y='{base}' fill='#555' font-size='11'>{line}</text>");
         }
         s.push_str("</g>\n");
     }
@@ -349,30 +347,26 @@ impl<'a> Picture<'a> {
     fn legend(&self, s: &mut String) {
         let y = self.layout.height - 16;
         let mut x = 20;
-        let mut entry = |there: bool, sign: &str, words: &str| {
-            if there {
-                put(
-                    s,
-                    format_args!(
-                        "<g transform='translate({x} {y})'>{sign}<text x='36' y='0' fill='#555'>{words}</text></g>\n"
-                    ),
-                );
-                x += 56 + pixels(words.len(), 62);
-            }
+        let mut entry = |sign: String, words: &str| {
+            put!(s, "<g transform='translate({x} {y})'>\n{sign}<text x='36' fill='#555'>{words}</text></g>\n");
+            x += 56 + pixels(words.len(), 62);
+        };
+        let arrow = |stroke: Stroke| {
+            let mut sign = String::new();
+            stroke.put(&mut sign, &[[(0, -4), (15, -4), (15, -4), (30, -4)]]);
+            sign
         };
         let has = |kind: Kind| self.lines.iter().any(|line| line.kind == kind);
-        entry(
-            has(Kind::Row),
-            "<path d='M0 -4H24' stroke='#555' stroke-width='1.3'/><path d='M30 -4l-8 -4v8z' fill='#555'/>",
-            "writer to reader",
-        );
-        entry(has(Kind::Pair), "<path d='M0 -4H24' stroke='#1d4fd7' stroke-width='1.5' stroke-dasharray='6 4'/><path d='M30 -4l-8 -4v8z' fill='#1d4fd7'/>", "pair");
-        let named = self.roles.iter().any(|role| role.is_some());
-        entry(
-            named,
-            "<rect x='2' y='-11' width='26' height='13' rx='3' fill='#fff' stroke='#c00' stroke-width='3'/>",
-            "named by the answer",
-        );
+        if has(Kind::Row) {
+            entry(arrow(ROW), "writer to reader");
+        }
+        if has(Kind::Pair) {
+            entry(arrow(PAIR), "pair");
+        }
+        if self.roles.iter().any(|role| role.is_some()) {
+            let sign = format!("<rect x='2' y='-11' width='26' height='13' rx='3' fill='#fff' {NAMED_EDGE}/>");
+            entry(sign, "named by the answer");
+        }
     }
 }
 
@@ -382,13 +376,22 @@ struct Stroke {
     dashes: &'static str,
 }
 
+const ROW: Stroke = Stroke { colour: "#555", width: "1.3", dashes: "" };
+const PAIR: Stroke = Stroke { colour: "#1d4fd7", width: "1.5", dashes: " stroke-dasharray='6 4'" };
+const NAMED: Stroke = Stroke { colour: "#c00", width: "2.8", dashes: "" };
+const NAMED_EDGE: &str = "stroke='#c00' stroke-width='3'";
+
 impl Stroke {
-    fn put(&self, s: &mut String, paths: &[&[(i32, i32); 4]]) {
+    /// The lines, and then their arrowheads, which have no dashes.
+    fn put(&self, s: &mut String, lines: &[[(i32, i32); 4]]) {
         let Stroke { colour, width, dashes } = self;
-        put(s, format_args!("<g fill='none' stroke='{colour}' stroke-width='{width}'{dashes}>"));
-        paths.iter().for_each(|points| put(s, format_args!("<path d='{}'/>", way(points))));
-        put(s, format_args!("</g>\n<g fill='{colour}'>"));
-        paths.iter().for_each(|points| put(s, format_args!("<path d='{}'/>", head(points))));
+        if lines.is_empty() {
+            return;
+        }
+        put!(s, "<g fill='none' stroke='{colour}' stroke-width='{width}'{dashes}>");
+        lines.iter().for_each(|points| put!(s, "<path d='{}'/>", way(points)));
+        put!(s, "</g>\n<g fill='{colour}'>");
+        lines.iter().for_each(|points| put!(s, "<path d='{}'/>", head(points)));
         s.push_str("</g>\n");
     }
 }
@@ -443,11 +446,6 @@ fn clipped(text: &str, room: usize) -> String {
     format!("\u{2026}{end}")
 }
 
-fn put(s: &mut String, text: std::fmt::Arguments) {
-    // a String takes all that is written
-    let _ = s.write_fmt(text);
-}
-
 #[cfg(test)]
 pub mod tests {
     use super::*;
@@ -493,7 +491,7 @@ pub mod tests {
             assert_eq!(svg.matches(&title).count(), 1, "{name} {e}");
         }
         assert_eq!(
-            svg.matches("stroke='#c00' stroke-width='3'/><text").count(),
+            svg.matches(&format!("{NAMED_EDGE}/><text")).count(),
             named(answer).len() + usize::from(!named(answer).is_empty())
         );
         assert_eq!(svg.matches(" id='").count(), svg.matches(" id='p7-").count());
@@ -573,7 +571,23 @@ pub mod tests {
         check_picture(&table, &judge(&table.sheet().unwrap()), "the fullest");
     }
 
-    /// Files of `PICTURES_FROM` become pictures in `PICTURES_TO`.
+    /// Made anew with `PICTURES_RENEW=1 cargo test renewed`.
+    #[test]
+    fn the_documents_pictures_are_renewed() {
+        let root = concat!(env!("CARGO_MANIFEST_DIR"), "/../..");
+        for (sheet, drawn) in [("12-torn", "litmus-12"), ("15-markers", "litmus-15")] {
+            let name = format!("examples/litmus/{sheet}.sheet");
+            let sheet = std::fs::read(format!("{root}/{name}")).unwrap();
+            let svg = picture(&Table::of(&sheet).unwrap(), &judge(&sheet), &name, "sheet");
+            let file = format!("{root}/docs/pictures/{drawn}.svg");
+            if std::env::var_os("PICTURES_RENEW").is_some() {
+                std::fs::write(&file, &svg).unwrap();
+            }
+            assert_eq!(std::fs::read_to_string(&file).unwrap(), svg, "{file}");
+        }
+    }
+
+    /// Files of `PICTURES_FROM` become pictures in `PICTURES_TO`; where that is empty they are timed only.
     #[test]
     #[ignore]
     fn pictures() {

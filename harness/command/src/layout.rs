@@ -1,8 +1,8 @@
 //! Where everything stands in the picture of a sheet: a column for the inits and for each agent, a row for each event.
 //!
-//! A row holds one box. So a line leaves its writer's box sideways, along a row that is empty beside it, turns in a gutter
-//! between two columns, and reaches its reader's box sideways again: it runs through no box. In a gutter each line has its
-//! own lane, at the side of a box its own port, so no line lies on another.
+//! A row holds one box. So a line leaves its writer's box sideways, along a row that is empty beside it, turns in a
+//! gutter between two columns, and reaches its reader's box sideways again: it runs through no box. In a gutter each
+//! line has its own lane, at the side of a box its own port, so no line lies on another.
 
 /// What the layout is made from: boxes from top to bottom, and lines between them.
 pub struct Wanted {

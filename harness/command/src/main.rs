@@ -4,6 +4,8 @@ mod draw;
 mod layout;
 mod names;
 mod record;
+mod report;
+mod sentence;
 
 fn main() {
     println!("{}", plimdrong::judge(&[]));

@@ -19,8 +19,8 @@ fn push_shown(text: &mut String, c: char) {
     }
 }
 
-/// A text inside HTML or XML, between tags or in a quoted attribute. Characters that XML does not have are shown by their
-/// numbers.
+/// A text inside HTML or XML, between tags or in a quoted attribute. Characters that XML does not have are shown by
+/// their numbers.
 pub fn escaped(text: &str) -> String {
     let mut out = String::with_capacity(text.len());
     for c in text.chars() {

@@ -1,8 +1,8 @@
 //! The picture of a sheet and of what was said of it: an SVG.
 //!
-//! A column for the inits and for each agent, events from top to bottom in the order that was reported (in the sheet's
-//! order where there is none), a line from each writer to its reader, dashed lines for pairs. What the verdict names has
-//! a thick red edge and says its part.
+//! A column for the inits and for each agent, events from top to bottom in the order that was reported (in the
+//! sheet's order where there is none), a line from each writer to its reader, dashed lines for pairs. What the answer
+//! names has a thick red edge and says its part.
 
 use crate::layout::{Layout, Rect, Wanted, WantedBox, WantedLine};
 use crate::names::escaped;

@@ -9,11 +9,15 @@ use crate::names::{escaped, shown};
 use crate::record::{Class, Record, Said};
 use crate::sentence::{besides, meaning};
 use plimdrong::{refusal, Answer, Table};
-use std::collections::BTreeMap;
+use std::collections::btree_map::{BTreeMap, Entry};
 use std::fs::File;
 use std::io::{self, BufWriter, Seek, Write};
 
 const STYLE: &str = include_str!("report.css");
+
+/// A link to a section opens it. Without it the link leads there all the same.
+const OPENS: &str = "function o(){var d=document.getElementById(location.hash.slice(1));if(d)d.open=true}\
+                     addEventListener('hashchange',o);o()";
 
 /// A section is open from the start where it lists no more than this and is not about what is consistent.
 const OPEN: u64 = 25;
@@ -59,21 +63,22 @@ impl Report {
     pub fn add(&mut self, record: &Record) -> io::Result<()> {
         let class = record.said.class();
         let section = match self.sections.entry(place(class)) {
-            std::collections::btree_map::Entry::Occupied(there) => there.into_mut(),
-            std::collections::btree_map::Entry::Vacant(new) => new.insert(Section::new(class)?),
+            Entry::Occupied(there) => there.into_mut(),
+            Entry::Vacant(new) => new.insert(Section::new(class)?),
         };
         section.count += 1;
         if self.show.is_some_and(|show| section.listed >= show) {
             return Ok(());
         }
         section.listed += 1;
-        match &record.said {
+        let written = match &record.said {
             Said::Answer(answer @ Answer::Broken { .. }) => {
                 self.pictures += 1;
                 broken(&mut section.items, record, answer, &format!("p{}", self.pictures))
             }
             said => row(&mut section.items, record, said),
-        }
+        };
+        written.map_err(scratch::full)
     }
 
     pub fn finish(self, summary: &Summary, out: &mut dyn Write) -> io::Result<()> {
@@ -93,7 +98,7 @@ impl Report {
             writeln!(out, "<h2>The records by answer</h2>")?;
         }
         self.sections.into_values().try_for_each(|section| section.finish(out))?;
-        writeln!(out, "</main>\n</body>\n</html>")
+        writeln!(out, "</main>\n<script>{OPENS}</script>\n</body>\n</html>")
     }
 }
 
@@ -129,33 +134,47 @@ fn records(number: u64) -> String {
     }
 }
 
-/// The auditor's question and its answer: how many records have a read byte without a source, how many passes of
-/// another judge are none.
-fn question(out: &mut dyn Write, summary: &Summary) -> io::Result<()> {
-    if let Some(compared) = &summary.compared {
-        let passes = compared.sum(|old, _| old == Old::Pass);
-        let refused = compared.sum(|old, class| old == Old::Pass && matches!(class, Class::Refused(_)));
-        let sourceless = compared.sum(|old, class| old == Old::Pass && class == Class::Refused(11));
-        boxed(
-            out,
-            refused,
-            &format!("of {} passes of the other judge are refused by this one.", grouped(passes)),
-            &format!(
-                "Of these, {} for a read byte without a source (refused 11). The other judge&#39;s answers: {}.",
-                grouped(sourceless),
-                escaped(&compared.file)
-            ),
-        )?;
+fn verb(number: u64, one: &'static str, many: &'static str) -> &'static str {
+    if number == 1 {
+        one
+    } else {
+        many
     }
-    let have = if summary.counts.all() == 1 { "record has" } else { "records have" };
-    boxed(
-        out,
-        summary.counts.of(Class::Refused(11)),
-        &format!("of {} {have} a read byte without a source.", grouped(summary.counts.all())),
-        "These are refused 11: a byte that was read has no row that says who wrote it. 11 is asked for after all \
-         fields, and after 10 and 14. Of a record that is refused by another number nothing is said of its rows; it \
-         is no pass either.",
-    )
+}
+
+/// The auditor's question and its answer: how many records have a read byte without a source, how many passes of
+/// another judge this one refuses.
+fn question(out: &mut dyn Write, summary: &Summary) -> io::Result<()> {
+    let (all, sourceless) = (summary.counts.all(), summary.counts.of(Class::Refused(11)));
+    let have = verb(sourceless, "has", verb(all, "has", "have"));
+    let what = format!("of {} {have} a read byte without a source.", records(all));
+    let mut more = "Such a record is refused 11: a byte that was read has no row that says who wrote it. 11 is asked \
+                    for after all fields, and after 10 and 14. Of a record that is refused by another number nothing \
+                    is said of its rows; it is no pass either."
+        .to_string();
+    match summary.counts.of(Class::Unreadable) {
+        0 => {}
+        number => more += &format!(" {} could not be read.", records(number)),
+    }
+    boxed(out, sourceless, &what, &more)?;
+    summary.compared.as_ref().map_or(Ok(()), |compared| passes(out, compared))
+}
+
+fn passes(out: &mut dyn Write, compared: &Compared) -> io::Result<()> {
+    let of_passes = |asked: &dyn Fn(Class) -> bool| compared.sum(|old, class| old == Old::Pass && asked(class));
+    let passes = grouped(of_passes(&|_| true));
+    let refused = of_passes(&|class| matches!(class, Class::Refused(_)));
+    let sourceless = grouped(of_passes(&|class| class == Class::Refused(11)));
+    let broken = of_passes(&|class| matches!(class, Class::Broken(_)));
+    let (are, are_broken) = (verb(refused, "is", "are"), verb(broken, "is", "are"));
+    let what = format!("of {passes} passes of the other judge {are} refused by this one.");
+    let file = escaped(&compared.file);
+    let more = format!(
+        "Of these, {sourceless} for a read byte without a source (refused 11). Besides, {} of its passes {are_broken} \
+         broken. The other judge&#39;s answers: {file}.",
+        grouped(broken)
+    );
+    boxed(out, refused, &what, &more)
 }
 
 fn boxed(out: &mut dyn Write, number: u64, what: &str, more: &str) -> io::Result<()> {
@@ -218,7 +237,7 @@ fn anchor(class: Class) -> String {
 /// Both judges' answers beside each other.
 fn comparison(out: &mut dyn Write, compared: &Compared) -> io::Result<()> {
     writeln!(out, "<h2>Beside the other judge&#39;s answers</h2>")?;
-    head(out, "counts", &[("This judge", ""), ("The other: pass", N), ("The other: fail", N)])?;
+    head(out, "counts judges", &[("This judge", ""), ("The other: pass", N), ("The other: fail", N)])?;
     let line = |out: &mut dyn Write, kind: &str, name: &str, asked: &dyn Fn(Class) -> bool| {
         let number = |which: Old| grouped(compared.sum(|old, class| old == which && asked(class)));
         let (pass, fail) = (number(Old::Pass), number(Old::Fail));
@@ -265,22 +284,26 @@ impl Section {
         let consistent = matches!(class, Class::Orderly | Class::Unsettled);
         let open = if listed <= OPEN && !consistent { " open" } else { "" };
         writeln!(out, "<details id=\"{}\"{open}>", anchor(class))?;
-        writeln!(out, "<summary><h3>{class}</h3><span class=\"soft\">{}</span></summary>", records(count))?;
-        let remedy = match class {
-            Class::Refused(number) => refusal(number).map_or("", |refusal| refusal.remedy),
-            _ => "",
-        };
-        writeln!(out, "<p>{} {}</p>", escaped(meaning(class)), escaped(remedy))?;
+        write!(out, "<summary><h3>{class}</h3><span>{}</span>", records(count))?;
+        writeln!(out, "<span class=\"soft\">{}</span></summary>", escaped(meaning(class)))?;
+        if let Class::Refused(number) = class {
+            let remedy = refusal(number).map_or("", |refusal| refusal.remedy);
+            writeln!(out, "<p>{}</p>", escaped(remedy))?;
+        }
         if count > listed {
             let left = grouped(count - listed);
-            let first = if listed == 0 { "None is".to_string() } else { format!("The first {} are", grouped(listed)) };
+            let first = match listed {
+                0 => "None is".to_string(),
+                1 => "The first is".to_string(),
+                _ => format!("The first {} are", grouped(listed)),
+            };
             writeln!(out, "<p>{first} listed here, {left} left out. The CSV has them all.</p>")?;
         }
         let table = !matches!(class, Class::Broken(_)) && listed > 0;
         if table {
             head(out, "records", &[("Record", ""), ("Line", ""), ("Bytes", N), ("SHA-256", "")])?;
         }
-        let mut file = items.into_inner().map_err(|e| e.into_error())?;
+        let mut file = items.into_inner().map_err(|e| scratch::full(e.into_error()))?;
         file.rewind()?;
         io::copy(&mut file, out)?;
         if table {
@@ -353,6 +376,18 @@ mod scratch {
         })
     }
 
+    /// What to say where one could not be written.
+    pub fn full(e: io::Error) -> io::Error {
+        let folder = std::env::temp_dir();
+        let folder = folder.display();
+        io::Error::new(
+            e.kind(),
+            format!(
+                "a temporary file in {folder} could not be written ({e}): make room, or set TMPDIR to another folder"
+            ),
+        )
+    }
+
     fn in_folder(folder: &Path) -> io::Result<File> {
         let number = MADE.fetch_add(1, Ordering::Relaxed);
         let name = folder.join(format!("plimdrong-{}-{number}", std::process::id()));
@@ -409,6 +444,7 @@ mod tests {
     fn check_markup(page: &str) {
         let (start, rest) = page.split_once("<style>").unwrap();
         let (_, rest) = rest.split_once("</style>").unwrap();
+        let rest = rest.replace(OPENS, "");
         let page = format!("{start}{rest}").replace("<!DOCTYPE html>", "");
         let metas = page.lines().filter(|line| !line.starts_with("<meta")).collect::<Vec<_>>().join("\n");
         crate::draw::tests::well_formed(&metas);
@@ -420,6 +456,7 @@ mod tests {
         check_markup(&page);
         assert!(page.contains("<h1>Audit of lab &lt;1&gt;</h1>"));
         assert!(page.contains("<strong>2</strong> of 5 records have a read byte without a source."));
+        assert!(page.contains(" 1 record could not be read."));
         assert!(page.contains("two\\nlines&lt;b&gt;\\xff") && !page.contains("lines<b>"));
         assert!(page.contains("<td>unreadable: no such file</td><td></td><td></td>"));
         assert!(page.contains("event 2 read byte 0 from event 0, but event 1 writes that byte too"));
@@ -438,7 +475,7 @@ mod tests {
     #[test]
     fn no_more_than_asked_for() {
         let page = page(Some(1), &some(), None);
-        assert!(page.contains("The first 1 are listed here, 1 left out. The CSV has them all."));
+        assert!(page.contains("The first is listed here, 1 left out. The CSV has them all."));
         assert!(page.contains("rowless") && !page.contains("two\\nlines"));
         assert!(page.contains("<strong>2</strong> of 5 records"));
         let none = super::tests::page(Some(0), &some(), None);
@@ -468,9 +505,10 @@ mod tests {
         let page = page(None, &some(), Some(compared));
         check_markup(&page);
         assert!(page.contains("<strong>1,002</strong> of 1,009 passes of the other judge are refused by this one."));
+        assert!(page.contains("Besides, 0 of its passes are broken."));
         assert!(page.contains("Of these, 2 for a read byte without a source (refused 11)."));
         assert!(page.contains("old&amp;.csv") && page.contains("1 name stands more than once"));
-        assert!(page.find("1,009 passes") < page.find("of 5 records have"));
+        assert!(page.find("of 5 records have") < page.find("1,009 passes"));
     }
 
     #[test]
@@ -478,6 +516,23 @@ mod tests {
         for (number, text) in [(0, "0"), (999, "999"), (1000, "1,000"), (12345, "12,345"), (1234567, "1,234,567")] {
             assert_eq!(grouped(number), text);
         }
+    }
+
+    /// What `REPORT_TIMES` broken records take, and how much memory the process then has had.
+    #[test]
+    #[ignore]
+    fn many() {
+        let times: u64 = std::env::var("REPORT_TIMES").unwrap().parse().unwrap();
+        let (mut summary, stale, started) = (Summary::default(), some().swap_remove(0), std::time::Instant::now());
+        let mut report = Report::new(None).unwrap();
+        for _ in 0..times {
+            summary.counts.add(stale.said.class());
+            report.add(&stale).unwrap();
+        }
+        report.finish(&summary, &mut io::sink()).unwrap();
+        let status = std::fs::read_to_string("/proc/self/status").unwrap();
+        let most = status.lines().find(|line| line.starts_with("VmHWM")).unwrap();
+        println!("{times} records: {:?}, {most}", started.elapsed());
     }
 
     /// A report of the files below `REPORT_FROM` and of some odd records, into `REPORT_TO`.

@@ -323,7 +323,7 @@ impl<'a> Picture<'a> {
     fn one_box(&self, s: &mut String, e: usize, place: &Rect) {
         let Rect { x, y, width, height } = *place;
         let words = &self.words[e];
-        let edge = if self.roles[e].is_some() { NAMED_EDGE } else { "stroke='#8a8f98'" };
+        let edge = if self.roles[e].is_some() { NAMED_EDGE } else { "stroke='#7a808a'" };
         put!(s, "<g><title>{e} {}</title>", escaped(&self.table.events[e].to_string()));
         put!(s, "<rect x='{x}' y='{y}' width='{width}' height='{height}' rx='5' fill='#fff' {edge}/>");
         let (left, right) = (x + PAD.0, x + width - PAD.0);

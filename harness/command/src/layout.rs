@@ -230,11 +230,11 @@ impl Ports {
     fn of_line(&self, k: usize, boxes: &[Rect]) -> (i32, i32) {
         let y = |starts: bool| {
             let sides = self.left.iter().zip(boxes).chain(self.right.iter().zip(boxes));
-            let found = sides.filter_map(|(ends, b)| {
+            let mut found = sides.filter_map(|(ends, b)| {
                 let place = ends.iter().position(|end| *end == (k, starts))? as i32;
                 Some(b.y + b.height * (place + 1) / (ends.len() as i32 + 1))
             });
-            found.last().unwrap_or(0)
+            found.next().unwrap_or(0)
         };
         (y(true), y(false))
     }

@@ -8,10 +8,12 @@ mod draw;
 mod fetch;
 mod json;
 mod judge;
+mod layout;
 mod names;
 mod read;
 mod record;
 mod report;
+mod scratch;
 mod sentence;
 mod write;
 

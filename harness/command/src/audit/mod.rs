@@ -3,9 +3,9 @@
 mod compare;
 mod csv;
 mod output;
-pub mod page;
+mod page;
 mod pipeline;
-pub mod sort;
+mod sort;
 mod source;
 
 use crate::counts::Summary;
@@ -248,8 +248,9 @@ fn audited(matches: &ArgMatches) -> Result<u8, Failure> {
     )
 }
 
+/// What is wrong with a temporary file says itself what to do.
 fn temporary(e: std::io::Error) -> Failure {
-    format!("a temporary file in {}: {}", std::env::temp_dir().display(), crate::write::failure(&e))
+    e.to_string()
 }
 
 /// A bar on a terminal; in a log nothing. How many records there are is found out meanwhile.

@@ -32,7 +32,8 @@ pub enum Stop {
 
 impl From<io::Error> for Stop {
     fn from(e: io::Error) -> Stop {
-        Stop::Broken(format!("the folder of temporary files: {}", crate::write::failure(&e)))
+        // a temporary file's own words
+        Stop::Broken(e.to_string())
     }
 }
 

@@ -92,6 +92,10 @@ impl Report {
             archives(out, &summary.archives)?;
         }
         counts(out, &summary.counts)?;
+        if let Some((ending, files)) = &summary.left_out {
+            let (files, ending) = (grouped(*files), escaped(ending));
+            writeln!(out, "<p>Left out, since their names do not end with {ending}: {files} files.</p>")?;
+        }
         if let Some(compared) = &summary.compared {
             comparison(out, compared)?;
         }

@@ -15,7 +15,7 @@ use indicatif::{ProgressBar, ProgressStyle};
 use output::{Failure, Output};
 use pipeline::Sinks;
 use source::Source;
-use std::ffi::OsString;
+use std::ffi::{OsStr, OsString};
 use std::os::unix::ffi::OsStrExt;
 use std::path::{Path, PathBuf};
 
@@ -121,6 +121,7 @@ fn sources(matches: &ArgMatches) -> Result<Vec<Source>, Failure> {
 
 /// The files that are to be written.
 struct Wanted {
+    folder: Option<PathBuf>,
     csv: Option<PathBuf>,
     html: Option<PathBuf>,
     sourceless: Option<PathBuf>,
@@ -129,59 +130,74 @@ struct Wanted {
 }
 
 impl Wanted {
-    fn of(matches: &ArgMatches) -> Result<Wanted, Failure> {
+    fn of(matches: &ArgMatches) -> Wanted {
         let path = |name: &str| matches.get_one::<PathBuf>(name).cloned();
         let Some(folder) = path("out") else {
             let (csv, html, differs) = (path("csv"), path("html"), path("differs"));
-            return Ok(Wanted { csv, html, differs, sourceless: None, page: None });
+            return Wanted { folder: None, csv, html, differs, sourceless: None, page: None };
         };
-        std::fs::create_dir_all(&folder)
-            .map_err(|e| format!("{}: {}", names::shown(folder.as_os_str().as_bytes()), crate::write::failure(&e)))?;
         let within = |name: &str| Some(folder.join(name));
-        Ok(Wanted {
+        Wanted {
             csv: within("records.csv"),
             html: within("report.html"),
             sourceless: within("sourceless.csv"),
             differs: path("differs").or(matches.contains_id("compare").then(|| folder.join("differs.csv"))),
             page: within("page.txt"),
-        })
+            folder: Some(folder),
+        }
     }
 
-    /// What is written into the archive would be a record of it.
-    fn outside(&self, sources: &[Source]) -> Result<(), Failure> {
-        let files = [&self.csv, &self.html, &self.sourceless, &self.differs, &self.page];
-        for file in files.into_iter().flatten() {
-            let above = match file.parent() {
-                Some(parent) if parent != Path::new("") => parent,
-                _ => Path::new("."),
-            };
-            let Ok(above) = above.canonicalize() else {
-                continue;
-            };
+    fn files(&self) -> impl Iterator<Item = &PathBuf> {
+        [&self.csv, &self.html, &self.sourceless, &self.differs, &self.page].into_iter().flatten()
+    }
+
+    /// Each has a place of its own, outside the archive: what is written into it would be a record of it.
+    fn places(&self, sources: &[Source]) -> Result<(), Failure> {
+        let mut seen = vec![];
+        for file in
+            self.files().filter(|file| std::fs::metadata(file).is_ok_and(|about| about.is_file()) || !file.exists())
+        {
+            let shown = names::shown(file.as_os_str().as_bytes());
+            let file = if file == Path::new("-") { file.clone() } else { real(file) };
+            if seen.contains(&file) {
+                return Err(format!("{shown}: named twice: give each file a name of its own"));
+            }
             for source in sources {
                 let Source::Folder(folder) = source else {
                     continue;
                 };
-                let folder = Path::new(std::ffi::OsStr::from_bytes(folder)).canonicalize();
-                let is_device = std::fs::metadata(file).is_ok_and(|about| !about.is_file());
-                if file != Path::new("-") && !is_device && folder.is_ok_and(|folder| above.starts_with(folder)) {
+                if file != Path::new("-") && file.starts_with(real(Path::new(OsStr::from_bytes(folder)))) {
                     return Err(format!(
-                        "{}: it would stand inside the archive, as a record of it: name another place",
-                        names::shown(file.as_os_str().as_bytes())
+                        "{shown}: it would stand inside the archive, as a record of it: name another place"
                     ));
                 }
             }
+            seen.push(file);
         }
         Ok(())
     }
 }
 
+/// A path with its links resolved, as far as it is there.
+fn real(path: &Path) -> PathBuf {
+    let absolute = std::path::absolute(path).unwrap_or_else(|_| path.to_path_buf());
+    let there = absolute.ancestors().find_map(|above| Some((above.canonicalize().ok()?, above)));
+    match there {
+        Some((real, above)) => real.join(absolute.strip_prefix(above).unwrap_or(Path::new(""))),
+        None => absolute,
+    }
+}
+
 fn audited(matches: &ArgMatches) -> Result<u8, Failure> {
     let sources = sources(matches)?;
-    let wanted = Wanted::of(matches)?;
-    wanted.outside(&sources)?;
+    let wanted = Wanted::of(matches);
+    wanted.places(&sources)?;
     let show = *matches.get_one::<Option<u64>>("show").expect("it has a default");
     let compare = matches.get_one::<String>("compare").map(|file| compare::Compare::read(file)).transpose()?;
+    if let Some(folder) = &wanted.folder {
+        std::fs::create_dir_all(folder)
+            .map_err(|e| format!("{}: {}", names::shown(folder.as_os_str().as_bytes()), crate::write::failure(&e)))?;
+    }
     let create = |path: &Option<PathBuf>| path.as_deref().map(Output::create).transpose();
     let mut differs = create(&wanted.differs)?;
     let mut page_to = create(&wanted.page)?;

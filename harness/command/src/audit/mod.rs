@@ -8,14 +8,19 @@ mod pipeline;
 mod sort;
 mod source;
 
-use crate::counts::Summary;
+use crate::counts::{Counts, Summary};
+use crate::record::Class;
+use crate::report::Report;
+use crate::write::failure;
 use crate::{complain, names, Entry, DONE, FAILED, FOUND};
 use clap::{value_parser, Arg, ArgAction, ArgMatches, Command};
+use compare::Compare;
 use indicatif::{ProgressBar, ProgressStyle};
 use output::{Failure, Output};
-use pipeline::Sinks;
+use pipeline::{Sinks, Told};
 use source::Source;
 use std::ffi::{OsStr, OsString};
+use std::io::Write;
 use std::os::unix::ffi::OsStrExt;
 use std::path::{Path, PathBuf};
 
@@ -192,76 +197,85 @@ fn audited(matches: &ArgMatches) -> Result<u8, Failure> {
     let sources = sources(matches)?;
     let wanted = Wanted::of(matches);
     wanted.places(&sources)?;
-    let show = *matches.get_one::<Option<u64>>("show").expect("it has a default");
-    let compare = matches.get_one::<String>("compare").map(|file| compare::Compare::read(file)).transpose()?;
+    let compare = matches.get_one::<String>("compare").map(|file| Compare::read(file)).transpose()?;
     if let Some(folder) = &wanted.folder {
         std::fs::create_dir_all(folder)
-            .map_err(|e| format!("{}: {}", names::shown(folder.as_os_str().as_bytes()), crate::write::failure(&e)))?;
+            .map_err(|e| format!("{}: {}", names::shown(folder.as_os_str().as_bytes()), failure(&e)))?;
     }
     let create = |path: &Option<PathBuf>| path.as_deref().map(Output::create).transpose();
-    let mut differs = create(&wanted.differs)?;
-    let mut page_to = create(&wanted.page)?;
-    let mut html = create(&wanted.html)?;
-    let report = match html {
-        Some(_) => Some(crate::report::Report::new(show).map_err(temporary)?),
-        None => None,
-    };
+    // all of them before the first record: what cannot be written is said at once
+    let ends = Ends { html: create(&wanted.html)?, differs: create(&wanted.differs)?, page: create(&wanted.page)? };
+    let show = *matches.get_one::<Option<u64>>("show").expect("it has a default");
+    let report = ends.html.as_ref().map(|_| Report::new(show)).transpose().map_err(temporary)?;
     let sinks = Sinks::new(create(&wanted.csv)?, create(&wanted.sourceless)?, report, compare)?;
-    let bar = bar(&sources);
-    let ending = matches.get_one::<OsString>("ending");
-    let told = pipeline::judged(&sources, ending.map_or(b"", |e| e.as_bytes()), sinks, &bar);
-    bar.finish_and_clear();
-    let mut told = told?;
 
+    let ending = matches.get_one::<OsString>("ending").map(|ending| ending.as_bytes());
+    let bar = bar(&sources);
+    let told = pipeline::judged(&sources, ending.unwrap_or_default(), sinks, &bar);
+    bar.finish_and_clear();
+    let told = told?;
     let archives = sources.iter().map(|source| names::shown(source.name())).collect();
-    let compared = match told.compare.take() {
-        Some(compare) => Some(match &mut differs {
-            Some(to) => {
-                let mut told = None;
-                to.by(|to| compare.finish(to).map(|compared| told = Some(compared)))?;
-                told.expect("it was set")
-            }
-            None => compare.finish(&mut std::io::sink()).map_err(temporary)?,
-        }),
-        None => None,
-    };
-    let left_out = ending.map(|e| (names::shown(e.as_bytes()), told.left_out));
-    let summary = Summary { archives, counts: told.counts.clone(), left_out, compared };
-    if let (Some(to), Some(report)) = (&mut html, told.report.take()) {
-        to.by(|to| report.finish(&summary, to))?;
-    }
-    let mut text = page::page(&summary, &told.sourceless, &told.lost);
+    let left_out = ending.map(|ending| (names::shown(ending), told.left_out));
+    let (summary, mut page) = ends.written(Summary { archives, left_out, ..Summary::default() }, told)?;
+
     if wanted.csv.is_none() && wanted.html.is_none() {
-        text +=
+        page +=
             "\nA line for each record: --csv FILE. A report with pictures: --html FILE. Both and more: --out FOLDER.\n";
     }
-    if let Some(to) = &mut page_to {
-        to.put(text.as_bytes())?;
-    }
-    // all that is promised is there, or nothing has its name
-    told.outputs.extend([differs, html, page_to].into_iter().flatten());
-    told.outputs.into_iter().try_for_each(Output::finish)?;
-    if wanted.csv.as_deref() == Some(Path::new("-")) || wanted.html.as_deref() == Some(Path::new("-")) {
-        eprint!("{text}");
+    let takes_output = |path: &Option<PathBuf>| path.as_deref() == Some(Path::new("-"));
+    if [&wanted.csv, &wanted.html, &wanted.differs].into_iter().any(takes_output) {
+        eprint!("{page}");
     } else {
-        use std::io::Write;
         let mut out = std::io::stdout().lock();
-        out.write_all(text.as_bytes())
+        out.write_all(page.as_bytes())
             .and_then(|()| out.flush())
-            .map_err(|e| format!("the page could not be written: standard output: {}", crate::write::failure(&e)))?;
+            .map_err(|e| format!("the page could not be written: standard output: {}", failure(&e)))?;
     }
-    if summary.counts.all() == 0 {
+    Ok(status(&summary.counts))
+}
+
+fn status(counts: &Counts) -> u8 {
+    if counts.all() == 0 {
         complain("there was no record: check the archive's name. Nothing was judged, and that is no pass");
-        return Ok(FAILED);
+        FAILED
+    } else if counts.of(Class::Unreadable) > 0 {
+        FAILED
+    } else if counts.consistent() < counts.all() {
+        FOUND
+    } else {
+        DONE
     }
-    Ok(
-        match (summary.counts.of(crate::record::Class::Unreadable), summary.counts.consistent() == summary.counts.all())
-        {
-            (0, true) => DONE,
-            (0, false) => FOUND,
-            _ => FAILED,
-        },
-    )
+}
+
+/// What is written at the end.
+struct Ends {
+    html: Option<Output>,
+    differs: Option<Output>,
+    page: Option<Output>,
+}
+
+impl Ends {
+    /// Comparison, report and page of what was told; then every file gets its name. What it comes to, and the page.
+    fn written(mut self, known: Summary, told: Told) -> Result<(Summary, String), Failure> {
+        let mut compared = None;
+        match (told.compare, &mut self.differs) {
+            (Some(compare), Some(to)) => to.by(|to| compare.finish(to).map(|all| compared = Some(all)))?,
+            (Some(compare), None) => compared = Some(compare.finish(&mut std::io::sink()).map_err(temporary)?),
+            (None, _) => {}
+        }
+        let summary = Summary { counts: told.counts, compared, ..known };
+        if let (Some(to), Some(report)) = (&mut self.html, told.report) {
+            to.by(|to| report.finish(&summary, to))?;
+        }
+        let page = page::page(&summary, &told.sourceless, &told.lost);
+        if let Some(to) = &mut self.page {
+            to.put(page.as_bytes())?;
+        }
+        let mut outputs = told.outputs;
+        outputs.extend([self.html, self.differs, self.page].into_iter().flatten());
+        Output::finish_all(outputs)?;
+        Ok((summary, page))
+    }
 }
 
 /// What is wrong with a temporary file says itself what to do.

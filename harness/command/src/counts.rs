@@ -1,4 +1,4 @@
-//! What an audit counts, and the page that tells it.
+//! What an audit counts.
 
 use crate::record::Class;
 use std::collections::BTreeMap;
@@ -40,6 +40,13 @@ pub struct Summary {
     pub compared: Option<Compared>,
 }
 
+/// A number with commas between thousands.
+pub fn grouped(number: u64) -> String {
+    let digits = number.to_string();
+    let comma = |i: usize| if i > 0 && (digits.len() - i).is_multiple_of(3) { "," } else { "" };
+    digits.char_indices().map(|(i, digit)| format!("{}{digit}", comma(i))).collect()
+}
+
 impl Counts {
     pub fn add(&mut self, class: Class) {
         *self.0.entry(class).or_default() += 1;
@@ -77,5 +84,15 @@ impl Counts {
 impl Compared {
     pub fn sum(&self, asked: impl Fn(Old, Class) -> bool) -> u64 {
         self.both.iter().filter(|((old, class), _)| asked(*old, *class)).map(|(_, n)| n).sum()
+    }
+}
+
+#[cfg(test)]
+mod tests {
+    #[test]
+    fn numbers_are_grouped() {
+        for (number, text) in [(0, "0"), (999, "999"), (1000, "1,000"), (12345, "12,345"), (1234567, "1,234,567")] {
+            assert_eq!(super::grouped(number), text);
+        }
     }
 }

@@ -8,10 +8,12 @@ mod draw;
 mod fetch;
 mod json;
 mod judge;
+mod layout;
 mod names;
 mod read;
 mod record;
 mod report;
+mod scratch;
 mod sentence;
 mod write;
 
@@ -45,9 +47,8 @@ fn command() -> Command {
         .version(clap::crate_version!())
         .subcommand_required(true)
         .arg_required_else_help(true)
-        .disable_help_subcommand(true)
         .after_help(
-            "Examples:\n  ./plimdrong judge examples/first.sheet\n  ./plimdrong audit examples/litmus --html target/report.html\n\n\
+            "Examples:\n  ./plimdrong judge examples/first.sheet\n  ./plimdrong audit examples/litmus --ending .sheet --html target/report.html\n\n\
              What a sheet is: docs/SHEET.md. What the answers mean: README.md. Each subcommand has its own --help.",
         )
         .subcommands(ENTRIES.iter().map(|entry| (entry.command)()))

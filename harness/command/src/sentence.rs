@@ -1,6 +1,8 @@
-//! An answer in sentences, with the events that it names.
+//! Answers in sentences, with the events that they name; kinds of answer in words.
 
-use plimdrong::{Answer, Rule, Table};
+use crate::record::Class;
+use plimdrong::{refusal, Answer, Rule, Table};
+use std::fmt;
 
 /// The sentences of an answer, and a line for each event that it names.
 pub fn sentences(sheet: &[u8], answer: &Answer) -> String {
@@ -46,9 +48,39 @@ pub fn named(answer: &Answer) -> Vec<(&'static str, u8)> {
     }
 }
 
+/// As a line of such an answer begins.
+impl fmt::Display for Class {
+    fn fmt(&self, f: &mut fmt::Formatter) -> fmt::Result {
+        match self {
+            Class::Orderly => f.write_str("consistent orderly"),
+            Class::Unsettled => f.write_str("consistent unsettled"),
+            Class::Broken(rule) => write!(f, "broken {rule}"),
+            Class::Refused(number) => write!(f, "refused {number}"),
+            Class::Unreadable => f.write_str("unreadable"),
+        }
+    }
+}
+
+/// What such an answer says, for every record that gets it.
+pub fn meaning(class: Class) -> &'static str {
+    match class {
+        Class::Orderly => "The memory model allows the execution, and no two events are an unsettled pair.",
+        Class::Unsettled => "The memory model allows the execution, but two events are an unsettled pair.",
+        Class::Broken(21) => "A byte seen is not the byte that was written.",
+        Class::Broken(22) => "An event happens before itself.",
+        Class::Broken(23) => "A read happens before the write that it read.",
+        Class::Broken(24) => "A read saw a byte that was overwritten before.",
+        Class::Broken(25) => "A tear-free read has bytes of two writes.",
+        Class::Broken(26) => "No total order of the events meets the rules.",
+        Class::Broken(_) => "A rule is broken.",
+        Class::Refused(number) => refusal(number).map_or("The sheet is refused.", |refusal| refusal.meaning),
+        Class::Unreadable => "The record could not be read, so nothing is said of it.",
+    }
+}
+
 #[cfg(test)]
 mod tests {
-    use super::{besides, sentences};
+    use super::{besides, meaning, sentences, Class};
     use plimdrong::{judge, Table};
 
     fn torn(edition: u8) -> Vec<u8> {
@@ -77,5 +109,15 @@ mod tests {
             "(rule 25).\n  2 (reader): A3 read unordered at 0: 01 02\n  0 (writer): A1 write unordered at 0: 01 01\n  \
              1 (other): A2 write unordered at 0: 02 02\n"
         ));
+    }
+
+    #[test]
+    fn every_class_has_words() {
+        let known = (21..=26).map(Class::Broken).chain((1..=14).map(Class::Refused));
+        for class in known.chain([Class::Orderly, Class::Unsettled, Class::Unreadable]) {
+            assert!(!["A rule is broken.", "The sheet is refused."].contains(&meaning(class)), "{class}");
+        }
+        assert_eq!(Class::Broken(25).to_string(), "broken 25");
+        assert_eq!(meaning(Class::Refused(11)), "A byte that was read has no row.");
     }
 }

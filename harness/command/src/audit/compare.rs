@@ -70,7 +70,7 @@ impl Compare {
             let Some(said) = verdict(said) else {
                 return Err(format!("{file}:{}: '{}' is no verdict: write pass or fail", lines.line, shown(said)));
             };
-            old.push(&[name, &[0], &lines.line.to_be_bytes(), &[said as u8]]).map_err(wrong)?;
+            old.push(&[name, &[0], &lines.line.to_be_bytes(), &[said as u8]]).map_err(|e| e.to_string())?;
         }
         if at.is_none() {
             return Err(format!("{file}: it is empty: let its first line be name,verdict"));

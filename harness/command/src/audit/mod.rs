@@ -3,19 +3,24 @@
 mod compare;
 mod csv;
 mod output;
-pub mod page;
+mod page;
 mod pipeline;
-pub mod sort;
+mod sort;
 mod source;
 
-use crate::counts::Summary;
+use crate::counts::{Counts, Summary};
+use crate::record::Class;
+use crate::report::Report;
+use crate::write::failure;
 use crate::{complain, names, Entry, DONE, FAILED, FOUND};
 use clap::{value_parser, Arg, ArgAction, ArgMatches, Command};
+use compare::Compare;
 use indicatif::{ProgressBar, ProgressStyle};
 use output::{Failure, Output};
-use pipeline::Sinks;
+use pipeline::{Sinks, Told};
 use source::Source;
-use std::ffi::OsString;
+use std::ffi::{OsStr, OsString};
+use std::io::Write;
 use std::os::unix::ffi::OsStrExt;
 use std::path::{Path, PathBuf};
 
@@ -121,6 +126,7 @@ fn sources(matches: &ArgMatches) -> Result<Vec<Source>, Failure> {
 
 /// The files that are to be written.
 struct Wanted {
+    folder: Option<PathBuf>,
     csv: Option<PathBuf>,
     html: Option<PathBuf>,
     sourceless: Option<PathBuf>,
@@ -129,127 +135,152 @@ struct Wanted {
 }
 
 impl Wanted {
-    fn of(matches: &ArgMatches) -> Result<Wanted, Failure> {
+    fn of(matches: &ArgMatches) -> Wanted {
         let path = |name: &str| matches.get_one::<PathBuf>(name).cloned();
         let Some(folder) = path("out") else {
             let (csv, html, differs) = (path("csv"), path("html"), path("differs"));
-            return Ok(Wanted { csv, html, differs, sourceless: None, page: None });
+            return Wanted { folder: None, csv, html, differs, sourceless: None, page: None };
         };
-        std::fs::create_dir_all(&folder)
-            .map_err(|e| format!("{}: {}", names::shown(folder.as_os_str().as_bytes()), crate::write::failure(&e)))?;
         let within = |name: &str| Some(folder.join(name));
-        Ok(Wanted {
+        Wanted {
             csv: within("records.csv"),
             html: within("report.html"),
             sourceless: within("sourceless.csv"),
             differs: path("differs").or(matches.contains_id("compare").then(|| folder.join("differs.csv"))),
             page: within("page.txt"),
-        })
+            folder: Some(folder),
+        }
     }
 
-    /// What is written into the archive would be a record of it.
-    fn outside(&self, sources: &[Source]) -> Result<(), Failure> {
-        let files = [&self.csv, &self.html, &self.sourceless, &self.differs, &self.page];
-        for file in files.into_iter().flatten() {
-            let above = match file.parent() {
-                Some(parent) if parent != Path::new("") => parent,
-                _ => Path::new("."),
-            };
-            let Ok(above) = above.canonicalize() else {
-                continue;
-            };
+    fn files(&self) -> impl Iterator<Item = &PathBuf> {
+        [&self.csv, &self.html, &self.sourceless, &self.differs, &self.page].into_iter().flatten()
+    }
+
+    /// Each has a place of its own, outside the archive: what is written into it would be a record of it.
+    fn places(&self, sources: &[Source]) -> Result<(), Failure> {
+        let mut seen = vec![];
+        for file in
+            self.files().filter(|file| std::fs::metadata(file).is_ok_and(|about| about.is_file()) || !file.exists())
+        {
+            let shown = names::shown(file.as_os_str().as_bytes());
+            let file = if file == Path::new("-") { file.clone() } else { real(file) };
+            if seen.contains(&file) {
+                return Err(format!("{shown}: named twice: give each file a name of its own"));
+            }
             for source in sources {
                 let Source::Folder(folder) = source else {
                     continue;
                 };
-                let folder = Path::new(std::ffi::OsStr::from_bytes(folder)).canonicalize();
-                let is_device = std::fs::metadata(file).is_ok_and(|about| !about.is_file());
-                if file != Path::new("-") && !is_device && folder.is_ok_and(|folder| above.starts_with(folder)) {
+                if file != Path::new("-") && file.starts_with(real(Path::new(OsStr::from_bytes(folder)))) {
                     return Err(format!(
-                        "{}: it would stand inside the archive, as a record of it: name another place",
-                        names::shown(file.as_os_str().as_bytes())
+                        "{shown}: it would stand inside the archive, as a record of it: name another place"
                     ));
                 }
             }
+            seen.push(file);
         }
         Ok(())
     }
 }
 
-fn audited(matches: &ArgMatches) -> Result<u8, Failure> {
-    let sources = sources(matches)?;
-    let wanted = Wanted::of(matches)?;
-    wanted.outside(&sources)?;
-    let show = *matches.get_one::<Option<u64>>("show").expect("it has a default");
-    let compare = matches.get_one::<String>("compare").map(|file| compare::Compare::read(file)).transpose()?;
-    let create = |path: &Option<PathBuf>| path.as_deref().map(Output::create).transpose();
-    let mut differs = create(&wanted.differs)?;
-    let mut page_to = create(&wanted.page)?;
-    let mut html = create(&wanted.html)?;
-    let report = match html {
-        Some(_) => Some(crate::report::Report::new(show).map_err(temporary)?),
-        None => None,
-    };
-    let sinks = Sinks::new(create(&wanted.csv)?, create(&wanted.sourceless)?, report, compare)?;
-    let bar = bar(&sources);
-    let ending = matches.get_one::<OsString>("ending");
-    let told = pipeline::judged(&sources, ending.map_or(b"", |e| e.as_bytes()), sinks, &bar);
-    bar.finish_and_clear();
-    let mut told = told?;
-
-    let archives = sources.iter().map(|source| names::shown(source.name())).collect();
-    let compared = match told.compare.take() {
-        Some(compare) => Some(match &mut differs {
-            Some(to) => {
-                let mut told = None;
-                to.by(|to| compare.finish(to).map(|compared| told = Some(compared)))?;
-                told.expect("it was set")
-            }
-            None => compare.finish(&mut std::io::sink()).map_err(temporary)?,
-        }),
-        None => None,
-    };
-    let left_out = ending.map(|e| (names::shown(e.as_bytes()), told.left_out));
-    let summary = Summary { archives, counts: told.counts.clone(), left_out, compared };
-    if let (Some(to), Some(report)) = (&mut html, told.report.take()) {
-        to.by(|to| report.finish(&summary, to))?;
+/// A path with its links resolved, as far as it is there.
+fn real(path: &Path) -> PathBuf {
+    let absolute = std::path::absolute(path).unwrap_or_else(|_| path.to_path_buf());
+    let there = absolute.ancestors().find_map(|above| Some((above.canonicalize().ok()?, above)));
+    match there {
+        Some((real, above)) => real.join(absolute.strip_prefix(above).unwrap_or(Path::new(""))),
+        None => absolute,
     }
-    let mut text = page::page(&summary, &told.sourceless, &told.lost);
-    if wanted.csv.is_none() && wanted.html.is_none() {
-        text +=
-            "\nA line for each record: --csv FILE. A report with pictures: --html FILE. Both and more: --out FOLDER.\n";
-    }
-    if let Some(to) = &mut page_to {
-        to.put(text.as_bytes())?;
-    }
-    // all that is promised is there, or nothing has its name
-    told.outputs.extend([differs, html, page_to].into_iter().flatten());
-    told.outputs.into_iter().try_for_each(Output::finish)?;
-    if wanted.csv.as_deref() == Some(Path::new("-")) || wanted.html.as_deref() == Some(Path::new("-")) {
-        eprint!("{text}");
-    } else {
-        use std::io::Write;
-        let mut out = std::io::stdout().lock();
-        out.write_all(text.as_bytes())
-            .and_then(|()| out.flush())
-            .map_err(|e| format!("the page could not be written: standard output: {}", crate::write::failure(&e)))?;
-    }
-    if summary.counts.all() == 0 {
-        complain("there was no record: check the archive's name. Nothing was judged, and that is no pass");
-        return Ok(FAILED);
-    }
-    Ok(
-        match (summary.counts.of(crate::record::Class::Unreadable), summary.counts.consistent() == summary.counts.all())
-        {
-            (0, true) => DONE,
-            (0, false) => FOUND,
-            _ => FAILED,
-        },
-    )
 }
 
+fn audited(matches: &ArgMatches) -> Result<u8, Failure> {
+    let sources = sources(matches)?;
+    let wanted = Wanted::of(matches);
+    wanted.places(&sources)?;
+    let compare = matches.get_one::<String>("compare").map(|file| Compare::read(file)).transpose()?;
+    if let Some(folder) = &wanted.folder {
+        std::fs::create_dir_all(folder)
+            .map_err(|e| format!("{}: {}", names::shown(folder.as_os_str().as_bytes()), failure(&e)))?;
+    }
+    let create = |path: &Option<PathBuf>| path.as_deref().map(Output::create).transpose();
+    // all of them before the first record: what cannot be written is said at once
+    let ends = Ends { html: create(&wanted.html)?, differs: create(&wanted.differs)?, page: create(&wanted.page)? };
+    let show = *matches.get_one::<Option<u64>>("show").expect("it has a default");
+    let report = ends.html.as_ref().map(|_| Report::new(show)).transpose().map_err(temporary)?;
+    let sinks = Sinks::new(create(&wanted.csv)?, create(&wanted.sourceless)?, report, compare)?;
+
+    let ending = matches.get_one::<OsString>("ending").map(|ending| ending.as_bytes());
+    let bar = bar(&sources);
+    let told = pipeline::judged(&sources, ending.unwrap_or_default(), sinks, &bar);
+    bar.finish_and_clear();
+    let told = told?;
+    let archives = sources.iter().map(|source| names::shown(source.name())).collect();
+    let left_out = ending.map(|ending| (names::shown(ending), told.left_out));
+    let (summary, mut page) = ends.written(Summary { archives, left_out, ..Summary::default() }, told)?;
+
+    if wanted.csv.is_none() && wanted.html.is_none() {
+        page +=
+            "\nA line for each record: --csv FILE. A report with pictures: --html FILE. Both and more: --out FOLDER.\n";
+    }
+    let takes_output = |path: &Option<PathBuf>| path.as_deref() == Some(Path::new("-"));
+    if [&wanted.csv, &wanted.html, &wanted.differs].into_iter().any(takes_output) {
+        eprint!("{page}");
+    } else {
+        let mut out = std::io::stdout().lock();
+        out.write_all(page.as_bytes())
+            .and_then(|()| out.flush())
+            .map_err(|e| format!("the page could not be written: standard output: {}", failure(&e)))?;
+    }
+    Ok(status(&summary.counts))
+}
+
+fn status(counts: &Counts) -> u8 {
+    if counts.all() == 0 {
+        complain("there was no record: check the archive's name. Nothing was judged, and that is no pass");
+        FAILED
+    } else if counts.of(Class::Unreadable) > 0 {
+        FAILED
+    } else if counts.consistent() < counts.all() {
+        FOUND
+    } else {
+        DONE
+    }
+}
+
+/// What is written at the end.
+struct Ends {
+    html: Option<Output>,
+    differs: Option<Output>,
+    page: Option<Output>,
+}
+
+impl Ends {
+    /// Comparison, report and page of what was told; then every file gets its name. What it comes to, and the page.
+    fn written(mut self, known: Summary, told: Told) -> Result<(Summary, String), Failure> {
+        let mut compared = None;
+        match (told.compare, &mut self.differs) {
+            (Some(compare), Some(to)) => to.by(|to| compare.finish(to).map(|all| compared = Some(all)))?,
+            (Some(compare), None) => compared = Some(compare.finish(&mut std::io::sink()).map_err(temporary)?),
+            (None, _) => {}
+        }
+        let summary = Summary { counts: told.counts, compared, ..known };
+        if let (Some(to), Some(report)) = (&mut self.html, told.report) {
+            to.by(|to| report.finish(&summary, to))?;
+        }
+        let page = page::page(&summary, &told.sourceless, &told.lost);
+        if let Some(to) = &mut self.page {
+            to.put(page.as_bytes())?;
+        }
+        let mut outputs = told.outputs;
+        outputs.extend([self.html, self.differs, self.page].into_iter().flatten());
+        Output::finish_all(outputs)?;
+        Ok((summary, page))
+    }
+}
+
+/// What is wrong with a temporary file says itself what to do.
 fn temporary(e: std::io::Error) -> Failure {
-    format!("a temporary file in {}: {}", std::env::temp_dir().display(), crate::write::failure(&e))
+    e.to_string()
 }
 
 /// A bar on a terminal; in a log nothing. How many records there are is found out meanwhile.

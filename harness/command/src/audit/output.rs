@@ -5,7 +5,7 @@ use std::io::{self, BufWriter, Write};
 use std::path::{Path, PathBuf};
 
 pub struct Output {
-    to: Option<BufWriter<Box<dyn Write + Send>>>,
+    to: BufWriter<Box<dyn Write + Send>>,
     /// The name until it is whole, and its own.
     names: Option<(PathBuf, PathBuf)>,
     shown: String,
@@ -29,33 +29,42 @@ impl Output {
             let part = PathBuf::from(part);
             (Box::new(File::create(&part).map_err(wrong)?), Some((part, path.to_path_buf())))
         };
-        Ok(Output { to: Some(BufWriter::with_capacity(1 << 16, to)), names, shown })
+        Ok(Output { to: BufWriter::with_capacity(1 << 16, to), names, shown })
     }
 
     /// The failure in words.
-    pub fn wrong(&self, e: &io::Error) -> Failure {
+    fn wrong(&self, e: &io::Error) -> Failure {
         format!("{}: {}", self.shown, crate::write::failure(e))
     }
 
     pub fn put(&mut self, bytes: &[u8]) -> Result<(), Failure> {
-        let written = self.to.as_mut().expect("until it is finished").write_all(bytes);
+        let written = self.to.write_all(bytes);
         written.map_err(|e| self.wrong(&e))
     }
 
     pub fn by(&mut self, write: impl FnOnce(&mut dyn Write) -> io::Result<()>) -> Result<(), Failure> {
-        let written = write(self.to.as_mut().expect("until it is finished"));
+        let written = write(&mut self.to);
         written.map_err(|e| self.wrong(&e))
     }
 
+    /// All of it is written.
+    pub fn flush(&mut self) -> Result<(), Failure> {
+        self.by(|to| to.flush())
+    }
+
     /// All of it is there: it gets its name.
-    pub fn finish(mut self) -> Result<(), Failure> {
-        let done = self.to.take().expect("until it is finished").flush().and_then(|()| match &self.names {
-            Some((part, own)) => std::fs::rename(part, own),
-            None => Ok(()),
-        });
-        done.map_err(|e| self.wrong(&e))?;
+    fn finish(mut self) -> Result<(), Failure> {
+        if let Some((part, own)) = &self.names {
+            std::fs::rename(part, own).map_err(|e| self.wrong(&e))?;
+        }
         self.names = None;
         Ok(())
+    }
+
+    /// Several get their names, when the last of them is written.
+    pub fn finish_all(mut all: Vec<Output>) -> Result<(), Failure> {
+        all.iter_mut().try_for_each(Output::flush)?;
+        all.into_iter().try_for_each(Output::finish)
     }
 }
 

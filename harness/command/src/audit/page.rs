@@ -1,49 +1,22 @@
 //! The page at the end of an audit: the auditor's question first, then all counts.
 
-use crate::counts::{Old, Summary};
+use crate::counts::{grouped, Old, Summary};
 use crate::names::shown;
 use crate::record::Class;
+use crate::sentence::meaning;
 use std::fmt::Write;
 
 /// How many records are named on the page.
 pub const NAMED: usize = 10;
 
-/// A number with commas between thousands.
-pub fn number(n: u64) -> String {
-    let digits = n.to_string();
-    let mut text = String::new();
-    for (i, digit) in digits.chars().enumerate() {
-        if i > 0 && (digits.len() - i).is_multiple_of(3) {
-            text.push(',');
-        }
-        text.push(digit);
-    }
-    text
-}
-
-/// An answer in few words.
-pub fn words(class: Class) -> String {
+/// An answer in few words: its number, and what it means as far as the first stop.
+fn words(class: Class) -> String {
+    let meaning = meaning(class).split([':', '.']).next().unwrap_or_default();
     match class {
         Class::Orderly => "orderly".into(),
         Class::Unsettled => "not orderly (an unsettled pair)".into(),
-        Class::Broken(rule) => format!("{rule} {}", rule_words(rule)),
-        Class::Refused(number) => {
-            let meaning = plimdrong::refusal(number).map_or("", |r| r.meaning);
-            format!("{number} {}", meaning.split([':', '.']).next().unwrap_or_default())
-        }
+        Class::Broken(number) | Class::Refused(number) => format!("{number} {meaning}"),
         Class::Unreadable => "could not be read".into(),
-    }
-}
-
-pub fn rule_words(rule: u8) -> &'static str {
-    match rule {
-        21 => "a byte seen is not the byte that was written",
-        22 => "an event happens before itself",
-        23 => "a read happens before the write that it read",
-        24 => "a read saw a byte that was overwritten before",
-        25 => "a tear-free read has bytes of two writes",
-        26 => "no total order of the events meets the rules",
-        _ => "",
     }
 }
 
@@ -53,7 +26,7 @@ pub fn page(summary: &Summary, sourceless: &[Vec<u8>], lost: &[(Vec<u8>, String)
     let mut page = format!("Audit of {}\n\n", summary.archives.join(", "));
     let mut row = |depth: usize, what: &str, n: u64| {
         let what = format!("{}{what}", "  ".repeat(depth));
-        let _ = writeln!(page, "{what:<58}{:>14}", number(n));
+        let _ = writeln!(page, "{what:<58}{:>14}", grouped(n));
     };
     row(0, "records", counts.all());
     row(1, "consistent", counts.consistent());
@@ -83,42 +56,42 @@ fn questions(summary: &Summary, sourceless: &[Vec<u8>], lost: &[(Vec<u8>, String
     };
     say(format!(
         "\nA read byte without a source: {} of {} records (refused 11).",
-        number(without),
-        number(counts.all())
+        grouped(without),
+        grouped(counts.all())
     ));
     sourceless.iter().for_each(|name| say(format!("  {}", shown(name))));
     if without > sourceless.len() as u64 {
         say(format!(
             "  .. and {} more: in the CSV, the lines with `refused 11`",
-            number(without - sourceless.len() as u64)
+            grouped(without - sourceless.len() as u64)
         ));
     }
     let others = counts.refused() - without;
     if others > 0 {
         say(format!(
             "  Of the {} records refused by another number nothing is said of their sources: that fault was met first.",
-            number(others)
+            grouped(others)
         ));
     }
     say(format!(
         "Agents that are promised and never appear: {} records (refused 14).",
-        number(counts.of(Class::Refused(14)))
+        grouped(counts.of(Class::Refused(14)))
     ));
     say(format!(
         "Broken: {} records. Consistent but not orderly: {}.",
-        number(counts.broken()),
-        number(counts.of(Class::Unsettled))
+        grouped(counts.broken()),
+        grouped(counts.of(Class::Unsettled))
     ));
     if counts.of(Class::Unreadable) > 0 {
-        say(format!("Could not be read, and not judged: {}.", number(counts.of(Class::Unreadable))));
+        say(format!("Could not be read, and not judged: {}.", grouped(counts.of(Class::Unreadable))));
         lost.iter().for_each(|(name, why)| say(format!("  {}: {why}", shown(name))));
         if counts.of(Class::Unreadable) > lost.len() as u64 {
             let more = counts.of(Class::Unreadable) - lost.len() as u64;
-            say(format!("  .. and {} more: in the CSV, the lines with `unreadable`", number(more)));
+            say(format!("  .. and {} more: in the CSV, the lines with `unreadable`", grouped(more)));
         }
     }
     if let Some(compared) = &summary.compared {
-        let of = |old: Old, asked: &dyn Fn(Class) -> bool| number(compared.sum(|o, c| o == old && asked(c)));
+        let of = |old: Old, asked: &dyn Fn(Class) -> bool| grouped(compared.sum(|o, c| o == old && asked(c)));
         let consistent = |c: Class| matches!(c, Class::Orderly | Class::Unsettled);
         let (refused, broken) = (|c: Class| matches!(c, Class::Refused(_)), |c: Class| matches!(c, Class::Broken(_)));
         say(format!("\nCompared with {}", compared.file));
@@ -133,25 +106,15 @@ fn questions(summary: &Summary, sourceless: &[Vec<u8>], lost: &[(Vec<u8>, String
             row(2, "for a read byte without a source", of(old, &|c| c == Class::Refused(11)));
             row(1, "could not be read here", of(old, &|c| c == Class::Unreadable));
         }
-        row(0, "records of which the other judge says nothing", number(compared.unsaid));
-        row(0, "names of the other judge that are no records here", number(compared.elsewhere));
+        row(0, "records of which the other judge says nothing", grouped(compared.unsaid));
+        row(0, "names of the other judge that are no records here", grouped(compared.elsewhere));
         if compared.twice > 0 {
-            row(0, "names that stand there more than once (the first counts)", number(compared.twice));
+            row(0, "names that stand there more than once (the first counts)", grouped(compared.twice));
         }
         say(format!(
             "Passes of the other judge that this one does not uphold: {} refused, {} broken.",
             of(Old::Pass, &refused),
             of(Old::Pass, &broken)
         ));
-    }
-}
-
-#[cfg(test)]
-mod tests {
-    #[test]
-    fn numbers() {
-        for (n, text) in [(0, "0"), (999, "999"), (1000, "1,000"), (1234567, "1,234,567")] {
-            assert_eq!(super::number(n), text);
-        }
     }
 }

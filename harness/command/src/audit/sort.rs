@@ -1,6 +1,7 @@
 //! Byte strings sorted in memory that does not grow with their number: what does not fit goes to a temporary file, in sorted
 //! runs, which are merged on the way out.
 
+use crate::scratch;
 use std::cmp::Reverse;
 use std::collections::{BinaryHeap, VecDeque};
 use std::fs::File;
@@ -11,21 +12,6 @@ use std::os::unix::fs::FileExt;
 const RUN: usize = 8 << 20;
 /// Bytes read at a time of each run.
 const PIECE: usize = 1 << 14;
-
-/// A temporary file without a name: the system drops it when it is closed, whatever happens.
-pub fn unnamed() -> io::Result<File> {
-    use std::sync::atomic::{AtomicU64, Ordering};
-    static NEXT: AtomicU64 = AtomicU64::new(0);
-    loop {
-        let number = NEXT.fetch_add(1, Ordering::Relaxed);
-        let path = std::env::temp_dir().join(format!("plimdrong-{}-{number}", std::process::id()));
-        match File::options().read(true).write(true).create_new(true).open(&path) {
-            Ok(file) => return std::fs::remove_file(&path).map(|()| file),
-            Err(e) if e.kind() == io::ErrorKind::AlreadyExists => {}
-            Err(e) => return Err(e),
-        }
-    }
-}
 
 pub struct Sorter {
     most: usize,
@@ -66,17 +52,17 @@ impl Sorter {
     fn spill(&mut self) -> io::Result<()> {
         self.sort();
         if self.spilled.is_none() {
-            self.spilled = Some(unnamed()?);
+            self.spilled = Some(scratch::file()?);
         }
         let begin = self.runs.last().map_or(0, |run| run.1);
         let mut end = begin;
         let mut out = io::BufWriter::with_capacity(1 << 16, self.spilled.as_ref().expect("it was made"));
         for &(a, b) in &self.strings {
-            out.write_all(&(b - a).to_le_bytes())?;
-            out.write_all(&self.arena[a as usize..b as usize])?;
+            let string = &self.arena[a as usize..b as usize];
+            out.write_all(&(b - a).to_le_bytes()).and_then(|()| out.write_all(string)).map_err(scratch::full)?;
             end += 4 + u64::from(b - a);
         }
-        out.flush()?;
+        out.flush().map_err(scratch::full)?;
         drop(out);
         self.runs.push((begin, end));
         self.arena.clear();

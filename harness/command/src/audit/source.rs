@@ -32,7 +32,8 @@ pub enum Stop {
 
 impl From<io::Error> for Stop {
     fn from(e: io::Error) -> Stop {
-        Stop::Broken(format!("the folder of temporary files: {}", crate::write::failure(&e)))
+        // a temporary file's own words
+        Stop::Broken(e.to_string())
     }
 }
 
@@ -288,7 +289,12 @@ fn tar(file: &[u8], from: Box<dyn Read>, give: Give) -> Result<(), Stop> {
         let Ok(mut entry) = entry else {
             return give(Item::Lost(file.to_vec(), Unreadable::Damaged)).ok_or(Stop::Unwanted);
         };
-        end = entry.raw_file_position() + entry.size().next_multiple_of(512);
+        // a sparse member has fewer bytes here than it stands for
+        let stored = match entry.header().entry_type() {
+            ::tar::EntryType::GNUSparse => entry.header().entry_size().unwrap_or(0),
+            _ => entry.size(),
+        };
+        end = entry.raw_file_position() + stored.next_multiple_of(512);
         if let Some(item) = member(&mut entry) {
             let cut = matches!(item, Item::Lost(_, Unreadable::CutShort));
             give(item).ok_or(Stop::Unwanted)?;

@@ -159,8 +159,8 @@ def judge_many(sheets):
 def names(folder):
     """The records below a folder, as bytes: all entries but folders, at any depth, links followed, in the order of their bytes.
 
-    A folder that cannot be listed stands there with a slash at its end, a link to a folder above it as itself: `row` says so
-    of them. What is kept at a time is the entries of one folder and of those above it.
+    A folder that cannot be listed and a link to a folder above it stand there with a slash at their end: `row` says which it
+    is. What is kept at a time is the entries of one folder and of those above it.
 
     >>> import tempfile
     >>> with tempfile.TemporaryDirectory() as folder:
@@ -182,10 +182,9 @@ def _below(path, prefix, above):
         own = _which(os.stat(path))
         entries = None if own in above else sorted(_entries(path))
     except OSError:
-        yield prefix
-        return
+        entries = None
     if entries is None:
-        yield prefix[:-1]
+        yield prefix or b"./"
         return
     for entry in entries:
         if entry.endswith(b"/"):
@@ -263,7 +262,7 @@ def read(name, below=b"", in_list=False):
     except OSError as why:
         raise Unreadable(_why(why)) from why
     try:
-        return _contents(file, path, in_list)
+        return _contents(file)
     except OSError as why:
         raise Unreadable(_why(why)) from why
     finally:
@@ -279,24 +278,14 @@ def _unlisted(path):
     try:
         os.scandir(path).close()
     except OSError as why:
-        if why.errno not in (errno.EACCES, errno.EPERM):
-            return _why(why)
-    return "you may not read this folder"
+        return "you may not read this folder" if why.errno in (errno.EACCES, errno.EPERM) else _why(why)
+    return "a link to a folder above it"
 
 
-def _stands_above(about, path):
-    """Whether a folder is one of those that its own path goes through."""
-    while os.path.dirname(path) != path:
-        path = os.path.dirname(path)
-        if _which(os.stat(path or b".")) == _which(about):
-            return True
-    return False
-
-
-def _contents(file, path, in_list):
+def _contents(file):
     about = os.fstat(file)
     if stat.S_ISDIR(about.st_mode):
-        raise Unreadable("a link to a folder above it" if not in_list and _stands_above(about, path) else "a folder")
+        raise Unreadable("a folder")
     if not stat.S_ISREG(about.st_mode):
         raise Unreadable("no regular file")
     digest = hashlib.sha256()

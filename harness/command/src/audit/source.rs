@@ -139,19 +139,18 @@ fn walk(folder: &[u8], give: Give) -> Result<(), Stop> {
     let mut enter = Some(prefix(folder));
     loop {
         if let Some(prefix) = enter.take() {
-            match level(&prefix, &stack) {
+            // a folder that is not walked stands there with its slash; `.` has no other name
+            let named = |prefix: &[u8]| if prefix.is_empty() { b"./".to_vec() } else { prefix.to_vec() };
+            let lost = match level(&prefix, &stack) {
                 Ok((level, lost)) => {
-                    if let Some(why) = lost {
-                        give(Item::Lost(prefix, why)).ok_or(Stop::Unwanted)?;
-                    }
                     stack.push(level);
+                    lost
                 }
-                Err(Entering::Lost(why)) => {
-                    let name =
-                        if why == Unreadable::LoopOfFolders { prefix[..prefix.len() - 1].to_vec() } else { prefix };
-                    give(Item::Lost(name, why)).ok_or(Stop::Unwanted)?;
-                }
+                Err(Entering::Lost(why)) => Some(why),
                 Err(Entering::Stop(stop)) => return Err(stop),
+            };
+            if let Some(why) = lost {
+                give(Item::Lost(named(&prefix), why)).ok_or(Stop::Unwanted)?;
             }
         }
         let Some(top) = stack.last_mut() else {

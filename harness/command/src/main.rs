@@ -18,6 +18,7 @@ mod sentence;
 mod write;
 
 use clap::{ArgMatches, Command};
+use std::io::Write;
 use std::process::ExitCode;
 
 /// A subcommand: what clap is told of it, and what it does. The number is the exit status.
@@ -38,7 +39,8 @@ pub const FAILED: u8 = 2;
 
 /// What is wrong and what to do, in one line on standard error.
 pub fn complain(line: impl std::fmt::Display) {
-    eprintln!("plimdrong: {line}");
+    // where standard error takes nothing the status says it
+    let _ = writeln!(std::io::stderr(), "plimdrong: {line}");
 }
 
 fn command() -> Command {

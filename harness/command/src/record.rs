@@ -36,6 +36,10 @@ pub enum Unreadable {
     Damaged,
     NoEnd,
     LinkInArchive,
+    Behind,
+    OwnHeader,
+    Sparse,
+    NameTooLong,
     Failed(i32),
 }
 
@@ -54,6 +58,10 @@ impl fmt::Display for Unreadable {
             Unreadable::Damaged => "the archive is damaged from here on",
             Unreadable::NoEnd => "the archive ends without its end mark",
             Unreadable::LinkInArchive => "a link: its bytes stand elsewhere",
+            Unreadable::Behind => "more stands behind its end mark",
+            Unreadable::OwnHeader => "its extended header cannot be read",
+            Unreadable::Sparse => "a sparse file in pax form: its holes are left out",
+            Unreadable::NameTooLong => "no name: it is longer than a path can be",
             Unreadable::Failed(number) => return write!(f, "reading it failed (error {number})"),
         })
     }

@@ -4,6 +4,7 @@ use crate::{complain, Entry, DONE, FAILED, FOUND};
 use clap::{value_parser, Arg, ArgMatches, Command};
 use plimdrong::Table;
 use std::ffi::{OsStr, OsString};
+use std::fs::File;
 use std::io::{self, IsTerminal, Read, Write};
 
 pub const ENTRY: Entry = Entry { command, run };
@@ -42,7 +43,7 @@ pub fn carry(matches: &ArgMatches, binary: bool, make: impl Fn(&str, &[u8]) -> M
         Ok(()) => DONE,
         // what is wrong with a text begins with its file and line, so that an editor finds it
         Err((FOUND, why)) => {
-            eprintln!("{why}");
+            let _ = writeln!(io::stderr(), "{why}");
             FOUND
         }
         Err((status, why)) => {
@@ -60,11 +61,24 @@ fn called(file: &OsStr) -> String {
     }
 }
 
+/// More than a sheet or the text of a table has.
+const MOST: usize = 1 << 20;
+
 fn all(file: &OsStr) -> Made {
     let mut bytes = Vec::new();
-    let read =
-        if file == "-" { io::stdin().lock().read_to_end(&mut bytes).map(|_| bytes) } else { std::fs::read(file) };
-    read.map_err(|e| (FAILED, format!("{}: {}", called(file), failure(&e))))
+    let mut front = |from: &mut dyn Read| from.take(MOST as u64 + 1).read_to_end(&mut bytes);
+    let read = match file == "-" {
+        true => front(&mut io::stdin().lock()),
+        false => File::open(file).and_then(|mut file| front(&mut file)),
+    };
+    match read {
+        Err(e) => Err((FAILED, format!("{}: {}", called(file), failure(&e)))),
+        // a text that is cut would be another text
+        Ok(n) if n > MOST => {
+            Err((FOUND, format!("{}: over {MOST} bytes: this is no sheet, and no table that has one", called(file))))
+        }
+        Ok(_) => Ok(bytes),
+    }
 }
 
 /// An error of the system, and what to do.
@@ -73,6 +87,8 @@ pub fn failure(e: &io::Error) -> String {
         io::ErrorKind::NotFound => "no such file or folder: check the name".to_string(),
         io::ErrorKind::PermissionDenied => "you may not: change its mode, or do it as its owner".to_string(),
         io::ErrorKind::IsADirectory => "a folder: give a file's name".to_string(),
+        io::ErrorKind::AlreadyExists => "there is a file of that name: name another place".to_string(),
+        io::ErrorKind::NotADirectory => "its path leads through a file: check the name".to_string(),
         io::ErrorKind::StorageFull => "its disk is full: make room, or name another place".to_string(),
         _ => format!("{e}"),
     }

@@ -1,14 +1,16 @@
 //! What another judge said of each record, beside what this one says. Both lists may be longer than the memory: they are
 //! sorted by name and gone through side by side.
 
-use super::csv::{put, Lines};
+use super::csv::{put, Lines, LONGEST};
 use super::sort::{Sorted, Sorter};
 use crate::counts::{Compared, Old};
 use crate::names::shown;
 use crate::record::{Class, Record};
 use std::fs::File;
-use std::io::{self, BufReader, Write};
+use std::io::{self, BufReader, Read, Write};
 use std::iter::Peekable;
+use std::os::unix::ffi::OsStrExt;
+use std::path::Path;
 
 /// The first line of the CSV of records on which the two differ.
 pub const HEADER: &[u8] = b"name,old,line\n";
@@ -19,6 +21,16 @@ pub struct Compare {
     old: Sorter,
     /// name, 0, class (2 bytes), line
     own: Sorter,
+}
+
+/// Removes what an earlier audit with a comparison has left: beside a new report it would tell of another one.
+pub fn forget(differs: &Path) -> io::Result<()> {
+    let mut front = vec![];
+    let read = File::open(differs).and_then(|file| file.take(HEADER.len() as u64).read_to_end(&mut front));
+    match read {
+        Ok(_) if front == HEADER => std::fs::remove_file(differs),
+        _ => Ok(()),
+    }
 }
 
 /// Words of another judge, or the lines of this one.
@@ -41,15 +53,22 @@ fn columns(head: &[Vec<u8>]) -> Option<(usize, usize)> {
 
 impl Compare {
     /// The other judge's answers: a CSV with the columns `name` and `verdict`, which is pass or fail. An audit's own CSV does too.
-    pub fn read(file: &str) -> Result<Compare, String> {
+    pub fn read(path: &Path) -> Result<Compare, String> {
+        let file = &shown(path.as_os_str().as_bytes());
         let wrong = |e: io::Error| format!("{file}: {}", crate::write::failure(&e));
-        let mut lines = Lines::new(BufReader::with_capacity(1 << 16, File::open(file).map_err(wrong)?));
+        let mut lines = Lines::new(BufReader::with_capacity(1 << 16, File::open(path).map_err(wrong)?));
         let mut old = Sorter::new();
         let mut at = None;
         loop {
             let line = match lines.next() {
                 Ok(Some(line)) => line,
                 Ok(None) => break,
+                Err(e) if e.kind() == io::ErrorKind::FileTooLarge => {
+                    return Err(format!(
+                        "{file}:{}: a line over {LONGEST} bytes: close its quotation mark",
+                        lines.line
+                    ));
+                }
                 Err(e) if e.kind() == io::ErrorKind::InvalidData => {
                     return Err(format!("{file}:{}: a quotation mark in the wrong place: quote a whole field, and double the marks in it", lines.line));
                 }
@@ -70,7 +89,7 @@ impl Compare {
             let Some(said) = verdict(said) else {
                 return Err(format!("{file}:{}: '{}' is no verdict: write pass or fail", lines.line, shown(said)));
             };
-            old.push(&[name, &[0], &lines.line.to_be_bytes(), &[said as u8]]).map_err(|e| e.to_string())?;
+            old.push(&[&key(name), &lines.line.to_be_bytes(), &[said as u8]]).map_err(|e| e.to_string())?;
         }
         if at.is_none() {
             return Err(format!("{file}: it is empty: let its first line be name,verdict"));
@@ -80,7 +99,7 @@ impl Compare {
 
     pub fn add(&mut self, record: &Record) -> io::Result<()> {
         let line = record.said.to_string();
-        self.own.push(&[&record.name, &[0], &code(record.said.class()), line.as_bytes()])
+        self.own.push(&[&key(&record.name), &code(record.said.class()), line.as_bytes()])
     }
 
     /// Both lists side by side; records on which they differ go to `differs`.
@@ -105,7 +124,7 @@ impl Compare {
             *told.both.entry((there.said, class)).or_default() += 1;
             if (there.said == Old::Pass) != matches!(class, Class::Orderly | Class::Unsettled) {
                 let mut row = vec![];
-                put(name, &mut row);
+                put(&name_of(name), &mut row);
                 row.extend(if there.said == Old::Pass { b",pass," } else { b",fail," });
                 put(&rest[2..], &mut row);
                 row.push(b'\n');
@@ -120,10 +139,37 @@ impl Compare {
     }
 }
 
-/// Name and what stands behind it: a name has no zero byte.
+/// A name that ends by itself and sorts as the name does: two zero bytes behind it, and 0 1 for each zero byte in it (a tar
+/// stream and a CSV can have such names).
+fn key(name: &[u8]) -> Vec<u8> {
+    let mut key = Vec::with_capacity(name.len() + 2);
+    for &b in name {
+        key.push(b);
+        if b == 0 {
+            key.push(1);
+        }
+    }
+    key.extend([0, 0]);
+    key
+}
+
+/// The key of a name, and what stands behind it.
 fn split(string: &[u8]) -> (&[u8], &[u8]) {
-    let at = string.iter().position(|&b| b == 0).unwrap_or(string.len());
-    (&string[..at], &string[(at + 1).min(string.len())..])
+    let at = string.windows(2).position(|two| two == [0, 0]).map_or(string.len(), |at| at + 2);
+    string.split_at(at)
+}
+
+/// The name of a key.
+fn name_of(key: &[u8]) -> Vec<u8> {
+    let mut name = Vec::with_capacity(key.len());
+    let mut left = key[..key.len().saturating_sub(2)].iter();
+    while let Some(&b) = left.next() {
+        name.push(b);
+        if b == 0 {
+            left.next();
+        }
+    }
+    name
 }
 
 fn code(class: Class) -> [u8; 2] {
@@ -191,7 +237,7 @@ mod tests {
     fn told(csv: &[u8], names: &[(&str, &[u8])]) -> Result<(super::Compared, String), String> {
         let file = std::env::temp_dir().join(format!("plimdrong-old-{}-{}.csv", std::process::id(), csv.len()));
         std::fs::write(&file, csv).unwrap();
-        let read = Compare::read(file.to_str().unwrap());
+        let read = Compare::read(&file);
         std::fs::remove_file(&file).unwrap();
         let mut compare = read.map_err(|why| why.rsplit_once(".csv").unwrap().1.to_string())?;
         for (name, sheet) in names {

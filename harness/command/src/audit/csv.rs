@@ -1,7 +1,7 @@
 //! CSV by RFC 4180, in bytes: a name has no encoding.
 
 use crate::record::Record;
-use std::io::{self, BufRead, Write};
+use std::io::{self, BufRead, Read, Write};
 
 /// The first line of an audit's CSV.
 pub const HEADER: &[u8] = b"name,bytes,digest,line\n";
@@ -36,6 +36,9 @@ pub fn line(record: &Record, row: &mut Vec<u8>) {
     let _ = writeln!(row, ",{}", record.said);
 }
 
+/// A line is shorter: one that does not end has a quotation mark that nothing closes.
+pub const LONGEST: usize = 1 << 20;
+
 /// The lines of a CSV.
 pub struct Lines<R> {
     from: R,
@@ -53,18 +56,23 @@ impl<R: BufRead> Lines<R> {
     pub fn next(&mut self) -> io::Result<Option<Vec<Vec<u8>>>> {
         loop {
             self.line = self.ends + 1;
-            let mut whole = Vec::new();
+            let (mut whole, mut open) = (Vec::new(), false);
             // a line's end within quotation marks belongs to the field: their number is odd until it closes
             loop {
                 let before = whole.len();
-                if self.from.read_until(b'\n', &mut whole)? == 0 {
+                let left = (LONGEST - before) as u64;
+                if self.from.by_ref().take(left).read_until(b'\n', &mut whole)? == 0 {
                     break;
+                }
+                if whole.len() == LONGEST {
+                    return Err(io::Error::from(io::ErrorKind::FileTooLarge));
                 }
                 self.ends += 1;
                 if self.line == 1 && before == 0 && whole.starts_with(b"\xef\xbb\xbf") {
                     whole.drain(..3);
                 }
-                if whole.iter().filter(|&&b| b == b'"').count() % 2 == 0 {
+                open ^= whole[before..].iter().filter(|&&b| b == b'"').count() % 2 == 1;
+                if !open {
                     break;
                 }
             }

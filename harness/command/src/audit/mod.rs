@@ -48,7 +48,7 @@ fn command() -> Command {
                 .value_name("FILE")
                 .action(ArgAction::Append)
                 .value_parser(value_parser!(OsString))
-                .help("A tar stream; - is standard input"),
+                .help("A tar stream; - is standard input. Links in it are not followed: make it with tar --dereference --hard-dereference"),
         )
         .arg(
             Arg::new("ending")
@@ -71,7 +71,8 @@ fn command() -> Command {
             Arg::new("compare")
                 .long("compare")
                 .value_name("OLD.csv")
-                .help("What another judge said: a CSV with the columns name and verdict, which is pass or fail. Tells how many of its passes this judge refuses"),
+                .value_parser(value_parser!(PathBuf))
+                .help("What another judge said: a CSV with the columns name (as --csv has it) and verdict (pass or fail). Tells how many of its passes this judge refuses"),
         )
         .arg(file("differs", "With --compare: the records on which the two judges differ to FILE").requires("compare"))
         .arg(
@@ -113,13 +114,20 @@ fn sources(matches: &ArgMatches) -> Result<Vec<Source>, Failure> {
     for archive in matches.get_many::<OsString>("archive").into_iter().flatten() {
         all.push(Source::of(archive.as_bytes())?);
     }
-    let tars = matches.get_many::<OsString>("tar").into_iter().flatten();
-    all.extend(tars.map(|file| Source::Tar(file.as_bytes().to_vec())));
+    for file in matches.get_many::<OsString>("tar").into_iter().flatten() {
+        all.push(Source::tar(file.as_bytes())?);
+    }
     if all.is_empty() {
         return Err("there is nothing to audit: name a folder, a list or a tar file, as: plimdrong audit FOLDER".into());
     }
     if all.iter().filter(|source| source.name() == b"-").count() > 1 {
         return Err("standard input can be read once only: give - once".into());
+    }
+    let place = |source: &Source| real(Path::new(OsStr::from_bytes(source.name())));
+    for (i, source) in all.iter().enumerate().filter(|(_, source)| source.name() != b"-") {
+        if all[..i].iter().any(|before| place(before) == place(source)) {
+            return Err(format!("{}: named twice: its records would count twice", names::shown(source.name())));
+        }
     }
     Ok(all)
 }
@@ -136,7 +144,7 @@ struct Wanted {
 
 impl Wanted {
     fn of(matches: &ArgMatches) -> Wanted {
-        let path = |name: &str| matches.get_one::<PathBuf>(name).cloned();
+        let path = |name: &str| matches.get_one::<PathBuf>(name).map(|path| output::named(path));
         let Some(folder) = path("out") else {
             let (csv, html, differs) = (path("csv"), path("html"), path("differs"));
             return Wanted { folder: None, csv, html, differs, sourceless: None, page: None };
@@ -157,15 +165,21 @@ impl Wanted {
     }
 
     /// Each has a place of its own, outside the archive: what is written into it would be a record of it.
-    fn places(&self, sources: &[Source]) -> Result<(), Failure> {
-        let mut seen = vec![];
+    fn places(&self, sources: &[Source], compare: Option<&Path>) -> Result<(), Failure> {
+        let mut seen: Vec<PathBuf> = vec![];
+        let inputs: Vec<PathBuf> = sources.iter().filter_map(Source::file).chain(compare).map(real).collect();
         for file in
             self.files().filter(|file| std::fs::metadata(file).is_ok_and(|about| about.is_file()) || !file.exists())
         {
             let shown = names::shown(file.as_os_str().as_bytes());
             let file = if file == Path::new("-") { file.clone() } else { real(file) };
-            if seen.contains(&file) {
+            // the name that it has until it is whole is taken too
+            let part = output::part(&file);
+            if seen.contains(&file) || seen.contains(&part) {
                 return Err(format!("{shown}: named twice: give each file a name of its own"));
+            }
+            if inputs.contains(&file) || inputs.contains(&part) {
+                return Err(format!("{shown}: it is read here, and would be lost: name another place"));
             }
             for source in sources {
                 let Source::Folder(folder) = source else {
@@ -177,7 +191,7 @@ impl Wanted {
                     ));
                 }
             }
-            seen.push(file);
+            seen.extend([file, part]);
         }
         Ok(())
     }
@@ -196,11 +210,16 @@ fn real(path: &Path) -> PathBuf {
 fn audited(matches: &ArgMatches) -> Result<u8, Failure> {
     let sources = sources(matches)?;
     let wanted = Wanted::of(matches);
-    wanted.places(&sources)?;
-    let compare = matches.get_one::<String>("compare").map(|file| Compare::read(file)).transpose()?;
+    let compare = matches.get_one::<PathBuf>("compare");
+    wanted.places(&sources, compare.map(PathBuf::as_path))?;
+    let compare = compare.map(|file| Compare::read(file)).transpose()?;
     if let Some(folder) = &wanted.folder {
         std::fs::create_dir_all(folder)
             .map_err(|e| format!("{}: {}", names::shown(folder.as_os_str().as_bytes()), failure(&e)))?;
+    }
+    if let (Some(folder), None) = (&wanted.folder, &wanted.differs) {
+        compare::forget(&folder.join("differs.csv"))
+            .map_err(|e| format!("differs.csv of an earlier audit: {}", failure(&e)))?;
     }
     let create = |path: &Option<PathBuf>| path.as_deref().map(Output::create).transpose();
     // all of them before the first record: what cannot be written is said at once
@@ -224,12 +243,18 @@ fn audited(matches: &ArgMatches) -> Result<u8, Failure> {
     }
     let takes_output = |path: &Option<PathBuf>| path.as_deref() == Some(Path::new("-"));
     if [&wanted.csv, &wanted.html, &wanted.differs].into_iter().any(takes_output) {
-        eprint!("{page}");
+        let mut out = std::io::stderr().lock();
+        out.write_all(page.as_bytes())
+            .map_err(|e| format!("the page could not be written: standard error: {}", failure(&e)))?;
     } else {
         let mut out = std::io::stdout().lock();
         out.write_all(page.as_bytes())
             .and_then(|()| out.flush())
             .map_err(|e| format!("the page could not be written: standard output: {}", failure(&e)))?;
+    }
+    if summary.compared.as_ref().is_some_and(|all| all.both.is_empty()) {
+        complain("the two judges have no record in common: let the names in OLD.csv be those of --csv, folder and all");
+        return Ok(FAILED);
     }
     Ok(status(&summary.counts))
 }

@@ -2,6 +2,8 @@
 
 use std::fs::File;
 use std::io::{self, BufWriter, Write};
+use std::os::fd::AsFd;
+use std::os::unix::fs::MetadataExt;
 use std::path::{Path, PathBuf};
 
 pub struct Output {
@@ -9,6 +11,26 @@ pub struct Output {
     /// The name until it is whole, and its own.
     names: Option<(PathBuf, PathBuf)>,
     shown: String,
+}
+
+/// A file as it was named; `-` for a link that leads to standard output, as /dev/stdout does: a new file in its place would
+/// be one in /dev, and what goes to the same file twice would overwrite itself.
+pub fn named(path: &Path) -> PathBuf {
+    let which = |about: std::fs::Metadata| (about.dev(), about.ino());
+    let own = io::stdout().as_fd().try_clone_to_owned().and_then(|fd| File::from(fd).metadata()).map(which);
+    let there = std::fs::metadata(path).map(which);
+    match (own, there) {
+        (Ok(own), Ok(there)) if own == there && path.is_symlink() => "-".into(),
+        _ => path.to_path_buf(),
+    }
+}
+
+/// The name of a file until it is whole.
+pub fn part(path: &Path) -> PathBuf {
+    let mut part = path.as_os_str().to_owned();
+    // with this process' number: two audits that write to one place do not write to one file
+    part.push(format!(".{}.part", std::process::id()));
+    part.into()
 }
 
 /// An output that failed: which, and why.
@@ -24,10 +46,10 @@ impl Output {
             // a device or a pipe is written as it is; a folder says so
             (Box::new(File::options().write(true).open(path).map_err(wrong)?), None)
         } else {
-            let mut part = path.as_os_str().to_owned();
-            part.push(".part");
-            let part = PathBuf::from(part);
-            (Box::new(File::create(&part).map_err(wrong)?), Some((part, path.to_path_buf())))
+            // a link stays: what it leads to is written anew
+            let own = path.canonicalize().unwrap_or_else(|_| path.to_path_buf());
+            let part = part(&own);
+            (Box::new(File::create_new(&part).map_err(wrong)?), Some((part, own)))
         };
         Ok(Output { to: BufWriter::with_capacity(1 << 16, to), names, shown })
     }

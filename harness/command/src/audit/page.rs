@@ -112,9 +112,10 @@ fn questions(summary: &Summary, sourceless: &[Vec<u8>], lost: &[(Vec<u8>, String
             row(0, "names that stand there more than once (the first counts)", grouped(compared.twice));
         }
         say(format!(
-            "Passes of the other judge that this one does not uphold: {} refused, {} broken.",
+            "Passes of the other judge that this one does not uphold: {} refused, {} broken, {} could not be read.",
             of(Old::Pass, &refused),
-            of(Old::Pass, &broken)
+            of(Old::Pass, &broken),
+            of(Old::Pass, &|c| c == Class::Unreadable)
         ));
     }
 }

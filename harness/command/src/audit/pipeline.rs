@@ -129,8 +129,16 @@ fn listed(sources: &[Source], ending: &[u8], to: SyncSender<Vec<Item>>) -> Resul
     let (mut lot, mut left_out) = (Vec::with_capacity(LOT), 0);
     for source in sources {
         let mut give = |item: Item| {
-            // what could not be read is told whatever its name is: a folder holds who knows what
-            if matches!(&item, Item::File(name) | Item::Bytes { name, .. } if !name.ends_with(ending)) {
+            // what could not be read is told whatever its name is: a folder holds who knows what. Members of a tar stream that
+            // are no files are left out as they are in a folder
+            use Unreadable::{LinkInArchive, NoRegularFile};
+            let named = match &item {
+                Item::File(name) | Item::Bytes { name, .. } | Item::Lost(name, LinkInArchive | NoRegularFile) => {
+                    Some(name)
+                }
+                Item::Lost(..) => None,
+            };
+            if named.is_some_and(|name| !name.ends_with(ending)) {
                 left_out += 1;
                 return Some(());
             }

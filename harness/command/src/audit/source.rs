@@ -37,6 +37,41 @@ impl From<io::Error> for Stop {
     }
 }
 
+/// How an argument begins.
+enum Begin {
+    Folder,
+    /// Standard input, a pipe, a device.
+    Stream,
+    /// The first bytes of a regular file, which is not a packed one.
+    File(Vec<u8>),
+}
+
+fn begin(argument: &[u8]) -> Result<Begin, String> {
+    let shown = crate::names::shown(argument);
+    let wrong = |e: io::Error| format!("{shown}: {}", crate::write::failure(&e));
+    if argument == b"-" {
+        return Ok(Begin::Stream);
+    }
+    let about = std::fs::metadata(path(argument)).map_err(wrong)?;
+    if about.is_dir() {
+        return Ok(Begin::Folder);
+    }
+    if !about.is_file() {
+        return Ok(Begin::Stream);
+    }
+    let mut bytes = vec![];
+    File::open(path(argument)).and_then(|file| file.take(512).read_to_end(&mut bytes)).map_err(wrong)?;
+    let unpack = match bytes[..] {
+        [0x1f, 0x8b, ..] => "zcat",
+        [b'B', b'Z', b'h', b'1'..=b'9', ..] => "bzcat",
+        [0xfd, b'7', b'z', b'X', b'Z', 0, ..] => "xzcat",
+        [0x28, 0xb5, 0x2f, 0xfd, ..] => "zstdcat",
+        [b'P', b'K', 3, 4, ..] => return Err(format!("{shown}: a zip file: unpack it, and audit the folder")),
+        _ => return Ok(Begin::File(bytes)),
+    };
+    Err(format!("{shown}: a packed file: audit what it holds, as: {unpack} {shown} | plimdrong audit --tar -"))
+}
+
 pub enum Source {
     Folder(Vec<u8>),
     /// A file of names, or standard input.
@@ -53,33 +88,33 @@ impl Source {
     /// What an argument is: a folder, a tar file, else a list.
     pub fn of(argument: &[u8]) -> Result<Source, String> {
         let shown = crate::names::shown(argument);
-        if argument == b"-" {
-            return Ok(Source::List(argument.to_vec()));
-        }
-        let about = std::fs::metadata(path(argument)).map_err(|e| format!("{shown}: {}", crate::write::failure(&e)))?;
-        if about.is_dir() {
-            return Ok(Source::Folder(argument.to_vec()));
-        }
-        if !about.is_file() {
-            return Ok(Source::List(argument.to_vec()));
-        }
-        let mut begin = vec![];
-        let file = File::open(path(argument)).map_err(|e| format!("{shown}: {}", crate::write::failure(&e)))?;
-        file.take(512).read_to_end(&mut begin).map_err(|e| format!("{shown}: {}", crate::write::failure(&e)))?;
-        let packed = |unpack| {
-            Err(format!("{shown}: a packed file: audit what it holds, as: {unpack} {shown} | plimdrong audit --tar -"))
-        };
-        match begin[..] {
-            [0x1f, 0x8b, ..] => packed("zcat"),
-            [b'B', b'Z', b'h', ..] => packed("bzcat"),
-            [0xfd, b'7', b'z', b'X', b'Z', ..] => packed("xzcat"),
-            [0x28, 0xb5, 0x2f, 0xfd, ..] => packed("zstdcat"),
-            [b'P', b'K', 3, 4, ..] => Err(format!("{shown}: a zip file: unpack it, and audit the folder")),
-            [1, 0, 3, ..] => {
+        match begin(argument)? {
+            Begin::Folder => Ok(Source::Folder(argument.to_vec())),
+            Begin::Stream => Ok(Source::List(argument.to_vec())),
+            Begin::File(bytes) if is_tar(&bytes) => Ok(Source::Tar(argument.to_vec())),
+            Begin::File(bytes) if bytes.starts_with(&[1, 0, 3]) => {
                 Err(format!("{shown}: a sheet, and no list of names: plimdrong judge {shown}, or audit its folder"))
             }
-            _ if begin.get(257..262) == Some(b"ustar") => Ok(Source::Tar(argument.to_vec())),
-            _ => Ok(Source::List(argument.to_vec())),
+            Begin::File(_) => Ok(Source::List(argument.to_vec())),
+        }
+    }
+
+    /// What was named as a tar stream.
+    pub fn tar(argument: &[u8]) -> Result<Source, String> {
+        match begin(argument)? {
+            Begin::Folder => {
+                let shown = crate::names::shown(argument);
+                Err(format!("{shown}: a folder, and no tar stream: leave --tar out: plimdrong audit {shown}"))
+            }
+            _ => Ok(Source::Tar(argument.to_vec())),
+        }
+    }
+
+    /// The file that it is read from, where it is one.
+    pub fn file(&self) -> Option<&Path> {
+        match self {
+            Source::List(name) | Source::Tar(name) if name != b"-" => Some(path(name)),
+            _ => None,
         }
     }
 
@@ -238,22 +273,51 @@ fn list(mut from: Box<dyn Read>, give: Give) -> Result<(), Option<io::Error>> {
     // a path is shorter than this: the first zero byte, if there is any, stands in it
     let mut begin = vec![];
     from.by_ref().take(8192).read_to_end(&mut begin).map_err(Some)?;
+    if is_tar(&begin) || begin.starts_with(&[0x1f, 0x8b]) {
+        return Err(Some(io::Error::other(
+            "a tar stream or a packed one, and no list of names: audit --tar, after unpacking",
+        )));
+    }
     let end = if begin.contains(&0) { 0 } else { b'\n' };
+    // a list from elsewhere has CR LF in every line; a name may end with CR
+    let lines_end_with_cr = begin.split_inclusive(|&b| b == b'\n').all(|l| l.ends_with(b"\r\n") || !l.ends_with(b"\n"));
     let mut from = BufReader::with_capacity(1 << 16, io::Cursor::new(begin).chain(from));
     let mut name = vec![];
     loop {
         name.clear();
-        if from.read_until(end, &mut name).map_err(Some)? == 0 {
+        if from.by_ref().take(LONGEST as u64).read_until(end, &mut name).map_err(Some)? == 0 {
             return Ok(());
+        }
+        if name.len() == LONGEST && name.last() != Some(&end) {
+            name.truncate(80);
+            give(Item::Lost(name.clone(), Unreadable::NameTooLong)).ok_or(None)?;
+            skip(&mut from, end).map_err(Some)?;
+            continue;
         }
         if name.last() == Some(&end) {
             name.pop();
         }
-        if end == b'\n' && name.last() == Some(&b'\r') {
+        if end == b'\n' && lines_end_with_cr && name.last() == Some(&b'\r') {
             name.pop();
         }
         if !name.is_empty() {
             give(Item::File(name.clone())).ok_or(None)?;
+        }
+    }
+}
+
+/// Longer than any path, with its end.
+const LONGEST: usize = 1 << 16;
+
+/// What is left of a name.
+fn skip(from: &mut impl BufRead, end: u8) -> io::Result<()> {
+    loop {
+        let there = from.fill_buf()?;
+        let at = there.iter().position(|&b| b == end);
+        let (n, done) = (at.map_or(there.len(), |at| at + 1), at.is_some() || there.is_empty());
+        from.consume(n);
+        if done {
+            return Ok(());
         }
     }
 }
@@ -295,7 +359,7 @@ fn tar(file: &[u8], from: Box<dyn Read>, give: Give) -> Result<(), Stop> {
         };
         end = entry.raw_file_position() + stored.next_multiple_of(512);
         if let Some(item) = member(&mut entry) {
-            let cut = matches!(item, Item::Lost(_, Unreadable::CutShort));
+            let cut = matches!(item, Item::Lost(_, Unreadable::CutShort | Unreadable::Damaged));
             give(item).ok_or(Stop::Unwanted)?;
             if cut {
                 return Ok(());
@@ -306,6 +370,56 @@ fn tar(file: &[u8], from: Box<dyn Read>, give: Give) -> Result<(), Stop> {
     if count.get() < end + 512 {
         return give(Item::Lost(file.to_vec(), Unreadable::NoEnd)).ok_or(Stop::Unwanted);
     }
+    // and then nothing: records of another archive behind it would be lost. Reading on, the writer of a pipe is not cut off
+    match only_zeros(&mut archive.into_inner()) {
+        Ok(true) => Ok(()),
+        Ok(false) => give(Item::Lost(file.to_vec(), Unreadable::Behind)).ok_or(Stop::Unwanted),
+        Err(e) => give(Item::Lost(file.to_vec(), e.into())).ok_or(Stop::Unwanted),
+    }
+}
+
+fn only_zeros(from: &mut impl Read) -> io::Result<bool> {
+    let mut buffer = [0; 1 << 16];
+    loop {
+        match from.read(&mut buffer) {
+            Ok(0) => return Ok(true),
+            Ok(n) if buffer[..n].iter().any(|&b| b != 0) => return Ok(false),
+            Ok(_) => {}
+            Err(e) if e.kind() == io::ErrorKind::Interrupted => {}
+            Err(e) => return Err(e),
+        }
+    }
+}
+
+/// Whether a file begins with the header of a tar member of whatever form: the sum of its bytes stands in it.
+fn is_tar(begin: &[u8]) -> bool {
+    let Some(header) = begin.get(..512) else {
+        return false;
+    };
+    let said = std::str::from_utf8(&header[148..156]).unwrap_or("");
+    let said = u32::from_str_radix(said.trim_matches([' ', '\0']), 8);
+    let sum = header[..148].iter().chain(&header[156..]).map(|&b| u32::from(b)).sum::<u32>() + 8 * 32;
+    said == Ok(sum)
+}
+
+/// What the extended header of a member says beside its header: the length goes by it (POSIX), and the crate takes it only
+/// where the header says 0; a sparse member in pax form has other bytes here than the file had.
+fn extended(entry: &mut ::tar::Entry<impl Read>) -> Result<(), Unreadable> {
+    let length = entry.size();
+    let Ok(Some(records)) = entry.pax_extensions() else {
+        return Ok(());
+    };
+    for record in records {
+        let record = record.map_err(|_| Unreadable::OwnHeader)?;
+        match record.key_bytes() {
+            // where the next member begins is then not known either
+            b"size" if record.value().ok().and_then(|v| v.parse().ok()) != Some(length) => {
+                return Err(Unreadable::Damaged);
+            }
+            key if key.starts_with(b"GNU.sparse.") => return Err(Unreadable::Sparse),
+            _ => {}
+        }
+    }
     Ok(())
 }
 
@@ -314,7 +428,12 @@ fn member(entry: &mut ::tar::Entry<impl Read>) -> Option<Item> {
     use ::tar::EntryType;
     let name = entry.path_bytes();
     let name = name.strip_prefix(b"./").unwrap_or(&name).to_vec();
+    if let Err(why) = extended(entry) {
+        return Some(Item::Lost(name, why));
+    }
     match entry.header().entry_type() {
+        // as the oldest tars have folders
+        EntryType::Regular if name.ends_with(b"/") => return None,
         EntryType::Regular | EntryType::Continuous | EntryType::GNUSparse => {}
         EntryType::Directory | EntryType::XGlobalHeader | EntryType::XHeader => return None,
         EntryType::Link | EntryType::Symlink => return Some(Item::Lost(name, Unreadable::LinkInArchive)),

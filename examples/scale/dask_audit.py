@@ -200,6 +200,9 @@ def asked(arguments):
     options.below = os.getcwdb()
     options.archive = os.fsencode(options.archive)
     options.list = not os.path.isdir(options.archive)
+    out, archive = os.path.realpath(os.fsencode(options.out)), os.path.realpath(options.archive)
+    if out == archive or out.startswith(os.path.join(archive, b"")):
+        sys.exit(f"dask_audit: {options.out}: it would stand inside the archive, as a record of it: name another place")
     return options
 
 

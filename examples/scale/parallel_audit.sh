@@ -16,6 +16,7 @@ die() { complain "$*"; exit 2; }
 command -v parallel >/dev/null || die "there is no parallel on the PATH: install GNU parallel, on Debian: apt-get install parallel"
 out=$1 archive=$2
 [ -r "$archive" ] || die "$archive: no folder or list that you may read: check the name"
+case $(readlink -m "$out") in "$(readlink -m "$archive")" | "$(readlink -m "$archive")"/*) die "$out: it would stand inside the archive, as a record of it: name another place" ;; esac
 if [ -d "$archive" ]; then how=names rows=(rows); else how=listed rows=(rows --list); fi
 # where jobs run elsewhere, the environment does not go with them: the command goes as an argument, by its whole path
 program=$(readlink -f "${PLIMDRONG:-$root/plimdrong}")

@@ -173,24 +173,31 @@ def names(folder):
     """
     folder = os.fsencode(folder)
     base = folder.rstrip(b"/")
-    return _below(folder, b"" if base == b"." else base + b"/", [])
-
-
-def _below(path, prefix, above):
-    """The records of the folder `path`, with `prefix` before each name; `above` is which folders stand above it."""
-    try:
-        own = _which(os.stat(path))
-        entries = None if own in above else sorted(_entries(path))
-    except OSError:
-        entries = None
-    if entries is None:
-        yield prefix or b"./"
-        return
-    for entry in entries:
-        if entry.endswith(b"/"):
-            yield from _below(prefix + entry[:-1], prefix + entry, above + [own])
+    # folders that are being walked: what stands before their names, what is left of them, which folder it is
+    walked = []
+    enter = b"" if base == b"." else base + b"/"
+    while True:
+        try:
+            own = _which(os.stat(enter or b"."))
+            entries = None if own in (at[2] for at in walked) else sorted(_entries(enter or b"."))
+        except OSError:
+            entries = None
+        if entries is None:
+            yield enter or b"./"
         else:
-            yield prefix + entry
+            walked.append((enter, iter(entries), own))
+        enter = None
+        while walked and enter is None:
+            prefix, left, _ = walked[-1]
+            entry = next(left, None)
+            if entry is None:
+                walked.pop()
+            elif entry.endswith(b"/"):
+                enter = prefix + entry
+            else:
+                yield prefix + entry
+        if enter is None:
+            return
 
 
 def _which(about):
@@ -222,17 +229,13 @@ def listed(file):
         rest = source.read(8192)
         # a path is shorter than that: the first zero byte, if there is any, stands in it
         end = b"\0" if b"\0" in rest else b"\n"
+        # a list from elsewhere has CR LF in every line; a name may end with CR
+        if end == b"\n" and all(line.endswith(b"\r") for line in rest.split(b"\n")[:-1]):
+            end = b"\r\n"
         for block in iter(lambda: source.read(1 << 20), b""):
             *whole, rest = (rest + block).split(end)
-            yield from _names(whole, end)
-        yield from _names(rest.split(end), end)
-
-
-def _names(pieces, end):
-    """The pieces that are names: not the empty ones; a line's end may be CR LF."""
-    if end == b"\n":
-        pieces = (piece[:-1] if piece.endswith(b"\r") else piece for piece in pieces)
-    return filter(None, pieces)
+            yield from filter(None, whole)
+        yield from filter(None, rest.split(end))
 
 
 class Unreadable(Exception):

@@ -50,7 +50,7 @@ pub fn refusal(number: u8) -> Option<Refusal> {
             "Both are markers, of different agents, and pairs rise strictly.",
         ),
         9 => (
-            "There are too many: a fifth init, a 17th other event or a 33rd pair.",
+            "Too many events or pairs: a fifth init, a 17th other event or a 33rd pair.",
             "Record a shorter execution; several inits side by side can be one.",
         ),
         10 => ("No event reads, so there is nothing to judge.", "Check that the reads were recorded."),

@@ -279,11 +279,11 @@ fn refusals_in_words() {
     );
     begins(
         &format!("head 1 1 2\n{}", "A1 marker\n".repeat(17)),
-        "event 16 (A1 marker): There are too many: a fifth init, a 17th other event or a 33rd pair. ",
+        "event 16 (A1 marker): Too many events or pairs: a fifth init, a 17th other event or a 33rd pair. ",
     );
     let pairs: String = (0..8).flat_map(|a| (8..16).map(move |b| format!("pair {a} {b}\n"))).collect();
     let markers = "A1 marker\n".repeat(8) + &"A2 marker\n".repeat(8);
-    begins(&format!("head 1 2 1\n{markers}{pairs}"), "pair 32 (pair 4 8): There are too many: ");
+    begins(&format!("head 1 2 1\n{markers}{pairs}"), "pair 32 (pair 4 8): Too many events or pairs: ");
     begins(
         "head 1 1 2\nA1 read sc at 0: 00 00\nA1 write sc at 0: 00 00\nrow 0 0 1",
         "event 0 (A1 read sc at 0: 00 00): A byte that was read has no row. Byte 1 has none. Give each byte ",

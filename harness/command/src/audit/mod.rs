@@ -88,7 +88,7 @@ fn command() -> Command {
              find examples -name '*.sheet' -print0 | ./plimdrong audit - --csv target/records.csv\n  \
              tar cf - examples/litmus/*.sheet | ./plimdrong audit --tar - --html target/report.html\n  \
              ./plimdrong audit examples/litmus --ending .sheet --compare examples/audit/old.csv --differs target/differs.csv\n\n\
-             Status: 0 all records are consistent; 1 some are not; 2 some could not be read, there was none, or a report could not be written.",
+             Status: 0 all records are consistent; 1 some are not; 2 some could not be read, there was none, OLD.csv has none of them, or a report could not be written.",
         )
 }
 
@@ -123,13 +123,29 @@ fn sources(matches: &ArgMatches) -> Result<Vec<Source>, Failure> {
     if all.iter().filter(|source| source.name() == b"-").count() > 1 {
         return Err("standard input can be read once only: give - once".into());
     }
+    apart(&all)?;
+    Ok(all)
+}
+
+/// No source is another, and no folder lies in another: what stands in both would count twice.
+fn apart(sources: &[Source]) -> Result<(), Failure> {
     let place = |source: &Source| real(Path::new(OsStr::from_bytes(source.name())));
-    for (i, source) in all.iter().enumerate().filter(|(_, source)| source.name() != b"-") {
-        if all[..i].iter().any(|before| place(before) == place(source)) {
-            return Err(format!("{}: named twice: its records would count twice", names::shown(source.name())));
+    let named: Vec<(&Source, PathBuf)> =
+        sources.iter().filter(|source| source.name() != b"-").map(|source| (source, place(source))).collect();
+    for (i, (source, own)) in named.iter().enumerate() {
+        for (before, other) in &named[..i] {
+            let shown = names::shown(source.name());
+            if own == other {
+                return Err(format!("{shown}: named twice: its records would count twice"));
+            }
+            let folders = matches!((source, before), (Source::Folder(_), Source::Folder(_)));
+            if folders && (own.starts_with(other) || other.starts_with(own)) {
+                let other = names::shown(before.name());
+                return Err(format!("{shown} and {other}: one lies in the other: its records would count twice"));
+            }
         }
     }
-    Ok(all)
+    Ok(())
 }
 
 /// The files that are to be written.

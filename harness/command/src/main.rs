@@ -13,6 +13,7 @@ mod names;
 mod read;
 mod record;
 mod report;
+mod said;
 mod scratch;
 mod sentence;
 mod write;

@@ -71,7 +71,7 @@ impl Rule {
         }
     }
 
-    fn from_names(number: u8, names: [u8; 4]) -> Option<Rule> {
+    pub(crate) fn from_names(number: u8, names: [u8; 4]) -> Option<Rule> {
         let names = names.map(|n| (n != 255).then_some(n));
         match (number, names) {
             (21, [Some(reader), Some(writer), None, Some(address)]) => {

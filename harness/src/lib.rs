@@ -46,15 +46,30 @@
 //! Float32Array or a DataView may ([`Event::may_tear`]), and can always be recorded with; edition 1 is for integer typed
 //! arrays only.
 //!
-//! What is proved is the functions behind [`judge_with`], [`write_with`] and [`table_with`]. Trusted are the compiler's
-//! back end, this crate's three `unsafe` calls, its laying out of a table and its reading of the 64-bit answers.
+//! An order from an engine's own log is checked against its sheet by [`check`]: it is accepted where it names every event
+//! once and meets the rules, else the first fault is told.
+//!
+//! ```
+//! use plimdrong::{check, Table};
+//!
+//! let table = Table::parse("head 1 1 1\ninit at 0: 00\nA1 read unordered at 0: 00\nrow 1 0 0");
+//! let sheet = table.unwrap().sheet().unwrap();
+//! assert!(check(&sheet, &[0, 1]).is_accepted());
+//! // the init happens before the read
+//! assert_eq!(check(&sheet, &[1, 0]).to_string(), "not accepted 3 at 0");
+//! ```
+//!
+//! What is proved is the functions behind [`judge_with`], [`write_with`], [`table_with`] and [`check_with`]. Trusted are the
+//! compiler's back end, this crate's four `unsafe` calls, its laying out of a table and its reading of the 64-bit answers.
 
 mod answer;
+mod check;
 mod table;
 mod text;
 mod words;
 
 pub use answer::{Answer, Order, Rule};
+pub use check::{check, check_with, happens_before_it, Checked, ListFault};
 pub use table::{kind, mode, table_with, write_with};
 pub use table::{Buffers, Entry, Event, Head, Pair, Row, Slices, Table, Unwritable};
 pub use text::{Lines, ParseError};

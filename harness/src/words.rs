@@ -1,6 +1,6 @@
 //! Answers in sentences.
 
-use crate::{Answer, Rule};
+use crate::{Answer, Checked, ListFault, Rule};
 use std::fmt;
 
 /// What a refusal's number means, and what to do about it.
@@ -128,6 +128,64 @@ impl Answer {
                     ),
                 }
             }
+        }
+    }
+}
+
+impl Checked {
+    /// The answer in sentences, for people. [`Checked::explain_list`] names more, by the sheet and the list.
+    pub fn explain(&self) -> String {
+        if let Some(answer) = self.of_the_sheet() {
+            return answer.explain();
+        }
+        match self {
+            Checked::NotAccepted { fault } => format!("{fault} {}", fault.remedy()),
+            _ => {
+                "The list names every event once and its order meets the rules: the memory model allows this execution."
+                    .to_string()
+            }
+        }
+    }
+}
+
+impl ListFault {
+    /// What to do about it.
+    pub fn remedy(&self) -> &'static str {
+        match self {
+            ListFault::WrongLength { .. } => "Name every event of the sheet once, inits and markers too.",
+            ListFault::BadNumber { .. } => {
+                "Name every event of the sheet once; events are numbered from 0 as they stand in the sheet, inits first."
+            }
+            ListFault::TooEarly { .. } => {
+                "Check that the list is of this execution, and that each agent's events, inits, rows that synchronise and \
+                 pairs stand in it in their order. Another list may be accepted: judge the sheet to see whether one is."
+            }
+            ListFault::Barred { .. } => {
+                "Check that the list is of this execution, and that the row names the right write. Another list may be \
+                 accepted: judge the sheet to see whether one is."
+            }
+        }
+    }
+}
+
+/// The fault in a sentence.
+impl fmt::Display for ListFault {
+    fn fmt(&self, f: &mut fmt::Formatter) -> fmt::Result {
+        match self {
+            ListFault::WrongLength { length } => {
+                write!(f, "The list's length, {length}, is not the number of the sheet's events.")
+            }
+            ListFault::BadNumber { index } => {
+                write!(f, "The number at index {index} of the list is no event of the sheet, or stands before it already.")
+            }
+            ListFault::TooEarly { index } => {
+                write!(f, "The event at index {index} of the list stands before one that happens before it.")
+            }
+            ListFault::Barred { reader, writer, between, address } => write!(
+                f,
+                "Event {between}, an sc write, stands between event {writer} and event {reader}, which read byte {address} \
+                 from event {writer}."
+            ),
         }
     }
 }

@@ -299,10 +299,10 @@ impl<'a> Picture<'a> {
         let mut y = 66;
         if !list.is_empty() {
             y += HEADING_LINE;
-            put!(s, "<text x='20' y='{y}' fill='#555'>The list:<tspan {MONOSPACE} fill='#111'>");
-            for (piece, wrong) in list {
+            put!(s, "<text x='20' y='{y}' fill='#555'>The list: <tspan {MONOSPACE} fill='#111'>");
+            for (i, (piece, wrong)) in list.iter().enumerate() {
                 let colour = if *wrong { " fill='#c00' font-weight='bold'" } else { "" };
-                put!(s, " <tspan{colour}>{}</tspan>", escaped(piece));
+                put!(s, "{}<tspan{colour}>{}</tspan>", if i > 0 { " " } else { "" }, escaped(piece));
             }
             s.push_str("</tspan></text>\n");
         }

@@ -3,12 +3,14 @@
 
 mod audit;
 mod batch;
+mod check;
 mod counts;
 mod draw;
 mod fetch;
 mod json;
 mod judge;
 mod layout;
+mod list;
 mod names;
 mod read;
 mod record;
@@ -29,11 +31,11 @@ pub struct Entry {
 }
 
 /// A request of 02 that lands adds its module here.
-const ENTRIES: [Entry; 5] = [judge::ENTRY, write::ENTRY, read::ENTRY, draw::ENTRY, audit::ENTRY];
+const ENTRIES: [Entry; 6] = [judge::ENTRY, check::ENTRY, write::ENTRY, read::ENTRY, draw::ENTRY, audit::ENTRY];
 
-/// Every sheet got its line, the text its sheet, every record is consistent.
+/// Every sheet got its line, the text its sheet, every record is consistent, the list is accepted.
 pub const DONE: u8 = 0;
-/// A text or a sheet was refused; a record is not consistent.
+/// A text or a sheet was refused; a record is not consistent; a list is not accepted.
 pub const FOUND: u8 = 1;
 /// Something could not be read or written, or the arguments are wrong.
 pub const FAILED: u8 = 2;

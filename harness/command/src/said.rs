@@ -1,7 +1,9 @@
 //! What a picture tells of a sheet besides its events: a verdict, or what was said of a list of its events.
 
+use crate::check::Outcome;
+use crate::list::List;
 use crate::sentence;
-use plimdrong::{Answer, Rule};
+use plimdrong::{Answer, ListFault, Rule};
 
 pub struct Said {
     /// The line, the picture's heading.
@@ -48,6 +50,67 @@ impl Said {
             fault: None,
         }
     }
+}
+
+/// Numbers of a list that a picture has room for: as many as the most events, and some.
+const SHOWN: usize = 24;
+
+impl Said {
+    /// What the checker said of a list and of a sheet of so many events. A list that is no order is shown beside the events as
+    /// the sheet has them.
+    pub fn of_list(outcome: &Outcome, events: usize) -> Said {
+        let mut said = match outcome.checked.of_the_sheet() {
+            Some(answer) => Said::of_sheet(&answer, events),
+            None => Said {
+                line: outcome.checked.to_string(),
+                sentences: String::new(),
+                order: (0..events).collect(),
+                downwards: AS_IN_THE_SHEET,
+                roles: outcome.named().into_iter().map(|(role, event)| (event, role)).collect(),
+                rows: vec![],
+                before: None,
+                list: vec![],
+                fault: outcome.what_is_wrong(),
+            },
+        };
+        if let Some(order) = placed(&outcome.list.bytes, events) {
+            (said.order, said.downwards) = (order, "Events from top to bottom in the order of the list.");
+        }
+        said.sentences = outcome.sentence();
+        let bytes = &outcome.list.bytes;
+        let mut wrong: Vec<usize> = vec![];
+        match outcome.fault() {
+            Some(ListFault::BadNumber { index }) => wrong.push(index as usize),
+            Some(ListFault::TooEarly { index }) => {
+                wrong.push(index as usize);
+                said.before = outcome.passed_over().zip(bytes.get(index as usize).copied());
+            }
+            Some(ListFault::Barred { reader, writer, between, .. }) => {
+                let named = [reader, writer, between];
+                wrong.extend((0..bytes.len()).filter(|&i| named.contains(&bytes[i])));
+                said.rows = vec![(writer, reader)];
+            }
+            Some(ListFault::WrongLength { .. }) | None => {}
+        }
+        said.list = pieces(outcome.list, &wrong);
+        said
+    }
+}
+
+/// A list's numbers as they are shown, the wrong ones marked; of a long one the front.
+fn pieces(list: &List, wrong: &[usize]) -> Vec<(String, bool)> {
+    let length = list.bytes.len();
+    let piece = |i: usize| {
+        let typed = list.typed(i);
+        let shown = typed.get(..8).filter(|_| typed.len() > 9).map(|front| format!("{front}\u{2026}"));
+        (shown.unwrap_or(typed), wrong.contains(&i))
+    };
+    let front = (0..length.min(SHOWN)).map(piece);
+    let rest = match length {
+        0 => Some("no numbers".to_string()),
+        _ => (length > SHOWN).then(|| format!("\u{2026} ({length} numbers)")),
+    };
+    front.chain(rest.map(|rest| (rest, false))).collect()
 }
 
 /// A list as an order of so many events; nothing where it is none.

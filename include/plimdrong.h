@@ -1,9 +1,10 @@
 /* plimdrong.h: recorded executions ("sheets") judged against the ECMAScript memory model, and sheets written, for C and
  * C++.
  *
- * plimdrong_judge takes a sheet and two lent buffers; plimdrong_write makes a sheet of a lent table, plimdrong_table a
- * table of a sheet. Each answers with a 64-bit word, allocates nothing, keeps nothing between calls, and gives every
- * input an answer. Calls with buffers of their own may run side by side.
+ * plimdrong_judge takes a sheet and two lent buffers; plimdrong_check takes a sheet and a lent list of event numbers;
+ * plimdrong_write makes a sheet of a lent table, plimdrong_table a table of a sheet. Each answers with a 64-bit word,
+ * allocates nothing, keeps nothing between calls, and gives every input an answer. Calls with buffers of their own may
+ * run side by side.
  *
  *   uint8_t scratch[PLIMDRONG_MAX_SCRATCH], order[PLIMDRONG_MAX_EVENTS];
  *   uint64_t word = plimdrong_judge(sheet, length, scratch, sizeof scratch, order, sizeof order);
@@ -15,9 +16,10 @@
  *
  * Link with libplimdrong.a (harness/native.sh writes target/native/libplimdrong.a for the machine at hand).
  *
- * THE WORD. Kind (1, 2, 3; 5 and 14 for tables, below) times 2^40, plus number times 2^32, plus 32 bits: the place for a
- * refusal, else four names as bytes, the first most significant, PLIMDRONG_NONE where there is none. Bits 48 and up are
- * zero today and will carry more: take a word apart with the macros, which mask kind and number to eight bits each.
+ * THE WORD. Kind (1, 2, 3; 6 and 7 for lists, 5 and 14 for tables, below) times 2^40, plus number times 2^32, plus 32
+ * bits: the place for a refusal, else four names as bytes, the first most significant, PLIMDRONG_NONE where there is
+ * none. Bits 48 and up are zero today and will carry more: take a word apart with the macros, which mask kind and number
+ * to eight bits each.
  *
  * REFUSED, kind 1: the sheet is not well-formed or a buffer is too short. Both buffers are unchanged.
  *    1 sheet over 4,096 bytes                        place 0
@@ -48,6 +50,23 @@
  *
  * THE SCRATCH needs, with n events that are not inits, the larger of 1 and 2^n / 8 bytes; what it holds on entry does
  * not matter. The buffers overlap neither each other nor the sheet. A length may be 0; no pointer may be null.
+ *
+ * plimdrong_check takes an order of the events, such as an engine's own log gives: a list of bytes, an event number each.
+ * There is no scratch and no order buffer, and nothing is written.
+ *   PLIMDRONG_REFUSED, kind 1, 1 to 11 or 14, and PLIMDRONG_BROKEN, kind 2, 21 to 25: what plimdrong_judge answers for the
+ *     sheet. The list is not looked at then. 12, 13 and 26 never come.
+ *   PLIMDRONG_ACCEPTED, kind 6, the rest 0: the list names every event once, and its order meets the rules. The memory
+ *     model allows the execution. Every order that plimdrong_judge gives is accepted.
+ *   PLIMDRONG_NOT_ACCEPTED, kind 7: the number is that of the first fault, each tested over the whole list, or all rows,
+ *     before the next. An index counts from 0.
+ *   1 PLIMDRONG_LIST_LENGTH: there are not as many numbers as events      PLIMDRONG_LENGTH(word) is the list's length
+ *     (2^32 - 1 for a longer one)
+ *   2 PLIMDRONG_LIST_NUMBER: a number out of range or repeated            PLIMDRONG_INDEX(word) is its index in the list
+ *     (of a repeated one, the second)
+ *   3 PLIMDRONG_LIST_EARLY: an event before one that happens before it    PLIMDRONG_INDEX(word) is the index of the event
+ *     that stands too early
+ *   4 PLIMDRONG_LIST_BARRED: in a row, a writing sc V stands after W and before R, where the rules bar it    R W V A as for
+ *     24, PLIMDRONG_NAME(word, 0) to (word, 3): of the first such row the lowest V
  *
  * EDITIONS. A sheet is of edition 1 or 2: its fourth byte says which, any other number is refused 5. At edition 2 each
  * event has a tear byte before its data, 0 may tear, 1 tear-free; rule 25 goes by it. At edition 1 there is none, and an
@@ -126,11 +145,19 @@
 #define PLIMDRONG_BROKEN 2
 #define PLIMDRONG_CONSISTENT 3
 #define PLIMDRONG_WRITTEN 5
+#define PLIMDRONG_ACCEPTED 6
+#define PLIMDRONG_NOT_ACCEPTED 7
 #define PLIMDRONG_TABLE 14
 
 /* Numbers of a consistent answer. */
 #define PLIMDRONG_ORDERLY 0
 #define PLIMDRONG_UNSETTLED 1
+
+/* Numbers of a list that is not accepted. */
+#define PLIMDRONG_LIST_LENGTH 1
+#define PLIMDRONG_LIST_NUMBER 2
+#define PLIMDRONG_LIST_EARLY 3
+#define PLIMDRONG_LIST_BARRED 4
 
 /* A name that is not there. */
 #define PLIMDRONG_NONE 255
@@ -141,8 +168,9 @@
 #define PLIMDRONG_PLACE(word) ((uint32_t)((word) & 0xffffffffu))
 #define PLIMDRONG_NAME(word, index) ((unsigned)((word) >> (24 - 8 * (index)) & 255))
 
-/* The length of a written sheet; how many entries and data bytes a table has. */
+/* The length of a written sheet, or of a list; an index in a list; how many entries and data bytes a table has. */
 #define PLIMDRONG_LENGTH(word) ((uint32_t)((word) & 0xffffffffu))
+#define PLIMDRONG_INDEX(word) ((uint32_t)((word) & 0xffffffffu))
 #define PLIMDRONG_TABLE_EVENTS(word) ((unsigned)((word) >> 32 & 255))
 #define PLIMDRONG_TABLE_PAIRS(word) ((unsigned)((word) >> 24 & 255))
 #define PLIMDRONG_TABLE_ROWS(word) ((unsigned)((word) >> 12 & 4095))
@@ -154,6 +182,8 @@ extern "C" {
 
 uint64_t plimdrong_judge(const uint8_t *sheet, size_t sheet_len, uint8_t *scratch, size_t scratch_len, uint8_t *order,
                          size_t order_len);
+
+uint64_t plimdrong_check(const uint8_t *sheet, size_t sheet_len, const uint8_t *list, size_t list_len);
 
 uint64_t plimdrong_write(const uint8_t *head, size_t head_len, const uint8_t *events, size_t events_len,
                          const uint8_t *data, size_t data_len, const uint8_t *rows, size_t rows_len,

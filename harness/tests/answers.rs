@@ -2,7 +2,7 @@
 
 mod words;
 
-use plimdrong::{judge, refusal, Answer, Judge, Rule};
+use plimdrong::{judge, refusal, Answer, Checked, Judge, ListFault, Rule};
 use std::path::PathBuf;
 
 fn from(word: u64) -> Option<Answer> {
@@ -92,6 +92,74 @@ fn bits_from_48_up() {
     }
     for (kind, count) in read.into_iter().enumerate() {
         assert_eq!(count > 0, (1..=3).contains(&kind), "kind {kind}: {count} words read");
+    }
+}
+
+/// Every answer of the checker, its line and its sentences; and words that are none of its answers.
+#[test]
+fn checked() {
+    let fault = |fault| Checked::NotAccepted { fault };
+    let barred = ListFault::Barred { reader: 4, writer: 0, between: 1, address: 7 };
+    for (word, line, answer) in [
+        (0x10e_0000_001e, "refused 14 at 30", Checked::Refused { number: 14, place: 30 }),
+        (0x219_0301_02ff, "broken 25 3 1 2 -", Checked::Broken { rule: Rule::Torn { reader: 3, writer: 1, other: 2 } }),
+        (0x600_0000_0000, "accepted", Checked::Accepted),
+        (0x701_0000_0003, "not accepted 1 length 3", fault(ListFault::WrongLength { length: 3 })),
+        (0x701_ffff_ffff, "not accepted 1 length 4294967295", fault(ListFault::WrongLength { length: u32::MAX })),
+        (0x702_0000_0004, "not accepted 2 at 4", fault(ListFault::BadNumber { index: 4 })),
+        (0x703_0000_0000, "not accepted 3 at 0", fault(ListFault::TooEarly { index: 0 })),
+        (0x704_0400_0107, "not accepted 4 4 0 1 7", fault(barred)),
+    ] {
+        assert_eq!(Checked::from_word(word), Some(answer), "{word:#x}");
+        assert_eq!(answer.to_string(), line);
+        assert_eq!(answer.is_accepted(), line == "accepted");
+        let sentence = answer.explain();
+        assert!(sentence.ends_with('.'), "{sentence}");
+        match answer {
+            Checked::NotAccepted { fault } => assert_eq!(sentence, format!("{fault} {}", fault.remedy())),
+            Checked::Accepted => assert_eq!(answer.of_the_sheet(), None),
+            // refused and broken: as the judge says it
+            _ => assert_eq!((answer.of_the_sheet(), sentence), (from(word), from(word).unwrap().explain())),
+        }
+    }
+    assert!(fault(barred)
+        .explain()
+        .starts_with("Event 1, an sc write, stands between event 0 and event 4, which read byte 7 from event 0."));
+    // 12, 13, 15 and 26; consistent; accepted with a number or a rest; faults that there are not, a name that is none
+    for word in [
+        0x100_0000_0000,
+        0x10c_0000_0000,
+        0x10d_0000_0000,
+        0x10f_0000_0000,
+        0x21a_ffff_ffff,
+        0x216_0102_ffff,
+        0x300_ffff_ffff,
+        0x500_0000_001e,
+        0x601_0000_0000,
+        0x600_0000_0001,
+        0x700_0000_0000,
+        0x705_0000_0000,
+        0x704_ff00_0107,
+        0x704_04ff_0107,
+        0x704_0400_ff07,
+        0x704_0400_01ff,
+        0xe02_0000_0000,
+    ] {
+        assert_eq!(Checked::from_word(word), None, "{word:#x}");
+    }
+    // of all kinds 1, 2, 6 and 7 alone are read, as what they say, without the bits from 48 up
+    let mut read = [0; 256];
+    for word in words::words() {
+        let answer = Checked::from_word(word);
+        assert_eq!(answer, Checked::from_word(word % 2u64.pow(48)), "{word:#x}");
+        if let Some(answer) = answer {
+            let parts = words::parts(word);
+            assert_eq!(words::parts_of_checked(&answer), parts, "{word:#x}");
+            read[parts.0 as usize] += 1;
+        }
+    }
+    for (kind, count) in read.into_iter().enumerate() {
+        assert_eq!(count > 0, [1, 2, 6, 7].contains(&kind), "kind {kind}: {count} words read");
     }
 }
 

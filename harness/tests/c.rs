@@ -81,8 +81,8 @@ fn cpp() {
 }
 
 /// The header's macros read a word as crates/answer/specs/Read.antt does, of which it is proved that they tell the answer: `kindIn`, `numberIn`,
-/// `placeIn`, `byteIn`; and the crate reads the same words in the same parts. So do the macros of a written sheet and of a
-/// table; sizes and kinds are the crate's.
+/// `placeIn`, `byteIn`; and the crate reads the same words in the same parts. So do the macros of a written sheet, of a list
+/// and of a table; sizes and kinds are the crate's.
 #[test]
 fn macros() {
     let words = words::words();
@@ -94,7 +94,7 @@ fn macros() {
         plimdrong::MAX_TABLE_PAIRS,
     ];
     assert_eq!(sizes, [3, 8 * 20, 512, 3 * 128, 2 * 32]);
-    let first = format!("1 2 3 5 14\n{}\n", sizes.map(|n| n.to_string()).join(" "));
+    let first = format!("1 2 3 5 6 7 14\n1 2 3 4\n{}\n", sizes.map(|n| n.to_string()).join(" "));
     let lines: String = words
         .iter()
         .map(|&w| {
@@ -103,9 +103,13 @@ fn macros() {
             if let Some(answer) = plimdrong::Answer::from_word(w, &[0, 1, 255]) {
                 assert_eq!(words::parts_of(&answer), (kind, number, place), "{w:#x}");
             }
+            if let Some(checked) = plimdrong::Checked::from_word(w) {
+                assert_eq!(words::parts_of_checked(&checked), (kind, number, place), "{w:#x}");
+            }
             let names = format!("{} {} {} {}", byte(0), byte(1), byte(2), byte(3));
-            // a written sheet's length; a table's events, pairs (8 bits), rows (12), data bytes (12)
-            let counts = format!("{place} {number} {} {} {}", byte(0), place / 2u64.pow(12) % 4096, place % 4096);
+            // a written sheet's length, an index in a list; a table's events, pairs (8 bits), rows (12), data bytes (12)
+            let rows = place / 2u64.pow(12) % 4096;
+            let counts = format!("{place} {place} {number} {} {rows} {}", byte(0), place % 4096);
             format!("{kind} {number} {place} {names} {counts}\n")
         })
         .collect();
@@ -144,6 +148,21 @@ fn write() {
                         edition 2 written 62, tear byte 0, kind 3 number 1\n\
                         edition 2 written 62, tear byte 1, kind 2 number 25\n\
                         refused 6 index 3\nrefused 6 index 0\nrefused 6 index 1\n";
+        assert_eq!(said, expected, "{standard}");
+    }
+}
+
+/// Lists checked from C and from C++: every kind of answer, and every fault.
+#[test]
+fn check() {
+    for (compiler, language, standard) in [("gcc", "c", "c99"), ("g++", "c++", "c++11")] {
+        let program = compiled_from("harness/tests/check.c", compiler, language, standard);
+        let out = Command::new(program).output().unwrap();
+        assert!(out.status.success());
+        let said = String::from_utf8(out.stdout).unwrap();
+        let expected = "accepted\nnot accepted, length 3\nnot accepted, length 0\nnot accepted, number at 3\n\
+                        not accepted, number at 2\nnot accepted, early at 1\nnot accepted, barred 3 1 2 0\n\
+                        refused 2 at 42\nbroken 21 3 1 255 0\n";
         assert_eq!(said, expected, "{standard}");
     }
 }

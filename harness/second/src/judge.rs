@@ -250,7 +250,7 @@ impl<'a> Relations<'a> {
 
     /// Whether `next` may be placed after the events held: all that happen before it are placed, and it is not the V of
     /// a row whose W is placed and whose R is still to come, hence after it.
-    fn may_follow(&self, held: &[bool], next: usize) -> bool {
+    pub fn may_follow(&self, held: &[bool], next: usize) -> bool {
         let all_before = (0..held.len()).all(|e| !self.before[e][next] || held[e]);
         let barred = self.x.rows.iter().any(|r| held[r.writer] && !held[r.reader] && self.bar(r, next));
         all_before && !barred

@@ -1,6 +1,6 @@
 //! Words to take apart, for the crate and for the header's macros: the same ones.
 
-use plimdrong::Answer;
+use plimdrong::{Answer, Checked, ListFault};
 
 /// All 256 kinds, each with numbers and names at their ends, without bits from 48 up, with each of them alone and with
 /// all; and 20,000 words of 64 random bits.
@@ -41,4 +41,19 @@ pub fn parts_of(answer: &Answer) -> (u64, u64, u64) {
         Answer::Consistent { pair: None, .. } => (3, 0, four([None; 4])),
         Answer::Consistent { pair: Some((e, d)), .. } => (3, 1, four([Some(*e), Some(*d), None, None])),
     }
+}
+
+/// The same of a checker's answer.
+pub fn parts_of_checked(checked: &Checked) -> (u64, u64, u64) {
+    let Checked::NotAccepted { fault } = checked else {
+        return checked.of_the_sheet().map_or((6, 0, 0), |answer| parts_of(&answer));
+    };
+    let low = match *fault {
+        ListFault::WrongLength { length } => length,
+        ListFault::BadNumber { index } | ListFault::TooEarly { index } => index,
+        ListFault::Barred { reader, writer, between, address } => {
+            u32::from_be_bytes([reader, writer, between, address])
+        }
+    };
+    (7, fault.number() as u64, low as u64)
 }

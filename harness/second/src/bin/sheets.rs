@@ -3,6 +3,8 @@
 //!     sheets --seed S --count N [--max-events K] --format hex|deftest-parse|batch|dump
 //!     sheets files DIR SEED COUNT   random sheets, a file each
 //!     sheets archive DIR SEED COUNT   the same with up to 16 events, a thousand a folder; prints NAME, a tab, the line of each
+//!     sheets lists SEED COUNT    random sheets with up to 16 events and a list each; prints NAME, the sheet in hex, the list as
+//!                                numbers with commas between, the line of its check (02 §5), tabs between
 //!     sheets tsv FILE            check the sheets of a .tsv against the second program
 //!     sheets tsv FILE --batch    its sheets, each after its length in two bytes
 //!     sheets tsv FILE --lines    its expected lines
@@ -13,12 +15,13 @@
 
 use second::sheet::{MAX_EVENTS, MAX_SCRATCH};
 use second::text::{from_hex, from_text, hex, litmus, to_text};
-use second::{judge, random, read, Answer};
+use second::{check, judge, random, read, Answer};
 use std::io::Write;
 
 const USAGE: &str = "usage: sheets --seed S --count N [--max-events K] --format hex|deftest-parse|batch|dump
        sheets files DIR SEED COUNT
        sheets archive DIR SEED COUNT
+       sheets lists SEED COUNT
        sheets tsv FILE [--batch|--lines]
        sheets litmus SRC DIR [--check]
        sheets text FILE
@@ -30,6 +33,7 @@ fn main() {
     let done = match words[..] {
         ["files", dir, seed, count] => files(dir, seed, count),
         ["archive", dir, seed, count] => archive(dir, seed, count),
+        ["lists", seed, count] => lists(seed, count),
         ["tsv", file] => tsv_check(file),
         ["tsv", file, "--batch"] => tsv(file).and_then(|all| all.iter().try_for_each(|t| out(&batched(&t.sheet)))),
         ["tsv", file, "--lines"] => {
@@ -123,6 +127,18 @@ fn archive(dir: &str, seed: &str, count: &str) -> Result<(), String> {
         std::fs::write(&name, &c.sheet).map_err(|e| format!("{name}: {e}"))?;
         let line = judge(&c.sheet, MAX_SCRATCH, MAX_EVENTS).line();
         writeln!(stdout, "{name}\t{line}").map_err(|e| e.to_string())?;
+    }
+    stdout.flush().map_err(|e| e.to_string())
+}
+
+fn lists(seed: &str, count: &str) -> Result<(), String> {
+    let seed = number(seed)?;
+    let mut stdout = std::io::BufWriter::new(std::io::stdout().lock());
+    for index in 0..number(count)? {
+        let c = random::list_case(seed, index, 16);
+        let list: Vec<String> = c.list.iter().map(|e| e.to_string()).collect();
+        let line = check(&c.sheet, &c.list).line();
+        writeln!(stdout, "{}\t{}\t{}\t{line}", c.name, hex(&c.sheet), list.join(",")).map_err(|e| e.to_string())?;
     }
     stdout.flush().map_err(|e| e.to_string())
 }

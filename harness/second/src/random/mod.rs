@@ -1,19 +1,22 @@
 //! Random small sheets by a seed, of both editions: whole ones around the litmus table, replayed and free, and ones damaged
 //! in every way that document 01 and 02 §4 refuse.
 //!
-//! [`case`] gives the sheet of a seed and an index, [`table_case`] the table for the writer, always the same.
+//! [`case`] gives the sheet of a seed and an index, [`table_case`] the table for the writer, [`list_case`] a sheet and a list
+//! of event numbers, always the same.
 
 use crate::sheet::{read, MAX_EVENTS, MAX_INITS, MAX_OTHERS, MAX_PAIRS, MAX_SCRATCH, MAX_SHEET};
 
 mod damage;
+mod lists;
 mod shown;
 mod tables;
 mod whole;
 
 pub use damage::{damaged, Way, WAYS};
+pub use lists::{list_case, shown_list, ListCase, SHOWN_LISTS};
 pub use shown::{shown, shown_back, shown_written, SHOWN, SHOWN_BACK, SHOWN_WRITTEN};
 pub use tables::{table_buffers, table_case, table_damaged, table_ways, TableCase};
-pub use whole::{sized, whole};
+pub use whole::{sc_heavy, sized, whole};
 
 /// splitmix64.
 pub struct Rng(u64);

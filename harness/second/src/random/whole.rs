@@ -25,7 +25,7 @@ struct Plan {
 pub fn whole(rng: &mut Rng, max: usize) -> (String, Vec<Field>) {
     loop {
         let made = match rng.below(100) {
-            0..=44 => template(rng, max),
+            0..=44 => template(rng, max, TEMPLATES),
             45..=74 => {
                 let n = rng.range(1, max);
                 Some(replayed(rng, n))
@@ -112,10 +112,26 @@ const TEMPLATES: &[Shape] = &[
         (3, READ, SC, X, &[0])], &[(1, 3)]),
 ];
 
+/// Entries for [`sc_heavy`]: bars by (a), (b) and (c), each with several V, and by (c) with a W that is no init.
+#[rustfmt::skip]
+const BARS: &[Shape] = &[
+    ("a3", 1, &[(1, WRITE, SC, X, &[]), (2, WRITE, SC, X, &[]), (3, WRITE, SC, X, &[]), (4, READ, SC, X, &[0])], &[]),
+    ("b", 1, &[(1, WRITE, SC, X, &[]), (2, WRITE, SC, X, &[]), (3, READ, SC, X, &[0]), (3, READ, SC, X, &[1]),
+        (3, READ, U, X, &[0])], &[]),
+    ("b3", 1, &[(1, WRITE, SC, X, &[]), (1, MARKER, SC, X, &[]), (2, WRITE, SC, X, &[]), (2, MARKER, SC, X, &[]),
+        (3, WRITE, SC, X, &[]), (3, MARKER, SC, X, &[]), (4, MARKER, SC, X, &[]), (4, READ, U, X, &[0])],
+        &[(1, 6), (3, 6), (5, 6)]),
+    ("c-init", 1, &[(1, WRITE, SC, X, &[]), (2, WRITE, SC, X, &[]), (3, READ, SC, X, &[I])], &[]),
+    ("c-write", 1, &[(1, WRITE, U, X, &[]), (1, MARKER, SC, X, &[]), (1, WRITE, SC, X, &[]), (2, MARKER, SC, X, &[]),
+        (2, READ, SC, X, &[0])], &[(1, 3)]),
+    ("c-write2", 1, &[(1, WRITE, U, X, &[]), (1, MARKER, SC, X, &[]), (2, MARKER, SC, X, &[]), (2, RMW, SC, X, &[0]),
+        (3, MARKER, SC, X, &[]), (3, READ, SC, X, &[0])], &[(1, 2), (1, 4)]),
+];
+
 /// A litmus entry with its agents and locations changed about, its events merged in some order, here and there another
 /// mode, width, writer or event.
-fn template(rng: &mut Rng, max: usize) -> Option<(String, Plans)> {
-    let (name, shortest, shape, pairs) = TEMPLATES[rng.below(TEMPLATES.len())];
+fn template(rng: &mut Rng, max: usize, shapes: &[Shape]) -> Option<(String, Plans)> {
+    let (name, shortest, shape, pairs) = shapes[rng.below(shapes.len())];
     if shape.len() > max {
         return None;
     }
@@ -252,11 +268,37 @@ fn any_event(rng: &mut Rng, size: usize, agents: u8, sc: usize) -> Plan {
     Plan { agent, kind, mode, start, width, from: vec![From::Any] }
 }
 
+/// A whole sheet with many bars: around [`BARS`], or with few bytes of memory and mostly sc events, replayed or as they fall.
+pub fn sc_heavy(rng: &mut Rng, max: usize) -> (String, Vec<Field>) {
+    loop {
+        let made = if rng.percent(30) {
+            template(rng, max, BARS)
+        } else {
+            let n = rng.range(max.min(3), max);
+            let size = rng.pick(&[1, 1, 2, 2, 4]);
+            let agents = rng.range(2, 5) as u8;
+            let sc = rng.pick(&[60, 80, 90, 100]);
+            let plans = drawn(rng, n, size, agents, sc);
+            Some(if rng.percent(85) { replay(rng, plans) } else { ("free".to_string(), plans) })
+        };
+        if let Some((name, plans)) = made {
+            if let Some(fields) = finish(rng, plans) {
+                let fields = if rng.percent(50) { edition_2(rng, fields) } else { fields };
+                return (format!("sc-{name}"), fields);
+            }
+        }
+    }
+}
+
 /// `n` events and rows as they fall, pairs between the markers.
 fn free(rng: &mut Rng, n: usize) -> Plans {
     let size = rng.pick(&[1, 1, 2, 2, 2, 3, 4, 4, 8, 8, 16, 64]);
     let agents = if rng.percent(80) { rng.range(1, 4) } else { rng.range(1, 8) } as u8;
     let sc = rng.pick(&[0, 30, 60, 100, 100]);
+    drawn(rng, n, size, agents, sc)
+}
+
+fn drawn(rng: &mut Rng, n: usize, size: usize, agents: u8, sc: usize) -> Plans {
     let events: Vec<Plan> = (0..n).map(|_| any_event(rng, size, agents, sc)).collect();
     let order: Vec<usize> = (0..n).collect();
     let pairs = some_pairs(rng, &events, &order);
@@ -282,7 +324,12 @@ fn some_pairs(rng: &mut Rng, events: &[Plan], order: &[usize]) -> Vec<(usize, us
 /// Events run one after another on a plain memory, in an order that keeps each agent's: every read sees the last write.
 /// So an order exists, unless a row is then changed.
 fn replayed(rng: &mut Rng, n: usize) -> (String, Plans) {
-    let mut plans = free(rng, n);
+    let plans = free(rng, n);
+    replay(rng, plans)
+}
+
+fn replay(rng: &mut Rng, mut plans: Plans) -> (String, Plans) {
+    let n = plans.events.len();
     // an order that keeps each agent's
     let mut left: Vec<usize> = (0..n).collect();
     let mut order = vec![];

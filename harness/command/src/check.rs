@@ -210,7 +210,7 @@ fn many(form: Form) -> u8 {
 mod tests {
     use super::*;
     use crate::draw::tests::check_told;
-    use plimdrong::{judge, Answer};
+    use plimdrong::judge;
     use std::collections::BTreeMap;
 
     const TEXT: &str = "head 1 3 1\n0 init at 0: 00\n1 A1 write sc at 0: 01\n2 A2 write sc at 0: 02\n3 A3 read sc at 0: 01\nrow 3 0 1\n";
@@ -277,38 +277,28 @@ mod tests {
         }
     }
 
-    /// Lists made from the orders of random sheets: each fault is drawn, and what every picture must be like holds.
+    /// Random lists of all kinds: each fault is drawn, and what every picture must be like holds.
     #[test]
     fn random_pictures() {
         let mut drawn = BTreeMap::new();
-        for index in 0..400 {
-            let case = second::random::case(5, index, 16);
+        for index in 0..4000 {
+            let case = second::random::list_case(16, index, 16);
             let Ok(table) = Table::of(&case.sheet) else { continue };
             let n = table.events.len();
-            let order = match judge(&case.sheet) {
-                Answer::Consistent { order, .. } => order.to_vec(),
-                _ => (0..n as u8).collect(),
-            };
-            let mut lists = vec![order.clone(), vec![], order[1..].to_vec(), [&order[..], &[0; 300]].concat()];
-            lists.extend([order.iter().rev().copied().collect(), (0..n as u8).collect(), vec![0; n]]);
-            for at in 1..n {
-                let mut list = order.clone();
-                list.swap(at - 1, at);
-                lists.push(list);
-            }
-            for bytes in lists {
-                let list = List::of_bytes(&bytes);
-                let outcome = Outcome::of(&case.sheet, &list);
-                let said = Said::of_list(&outcome, n);
-                check_told(&table, &said, &case.name);
-                assert_eq!(said.fault.is_some(), outcome.fault().is_some());
-                assert_eq!(said.before.is_some(), matches!(outcome.fault(), Some(ListFault::TooEarly { .. })));
-                assert!(said.order.len() == n && (0..n).all(|e| said.order.contains(&e)));
-                let kind = outcome.fault().map_or(0, |fault| fault.number());
-                *drawn.entry(if outcome.checked.of_the_sheet().is_some() { 9 } else { kind }).or_insert(0) += 1;
-            }
+            let list = List::of_bytes(&case.list);
+            let outcome = Outcome::of(&case.sheet, &list);
+            let said = Said::of_list(&outcome, n);
+            check_told(&table, &said, &case.name);
+            assert_eq!(said.fault.is_some(), outcome.fault().is_some());
+            assert_eq!(said.before.is_some(), matches!(outcome.fault(), Some(ListFault::TooEarly { .. })));
+            let listed: Vec<usize> = case.list.iter().map(|&e| e.into()).collect();
+            let is_order = listed.len() == n && (0..n).all(|e| listed.contains(&e));
+            assert_eq!(said.order, if is_order { listed } else { (0..n).collect() });
+            let number = outcome.fault().map_or(0, |fault| fault.number());
+            *drawn.entry((outcome.checked.of_the_sheet().is_some(), number)).or_insert(0) += 1;
         }
-        assert!([0, 1, 2, 3, 4, 9].iter().all(|kind| drawn.get(kind) > Some(&100)), "{drawn:?}");
+        let all = [(true, 0), (false, 0), (false, 1), (false, 2), (false, 3), (false, 4)];
+        assert!(all.iter().all(|kind| drawn.get(kind) > Some(&100)), "{drawn:?}");
     }
 
     /// Made anew with `./plimdrong check examples/litmus/21-synchronised-row.sheet 0 1 2 3 --draw docs/pictures/list-barred.svg` and

@@ -278,6 +278,10 @@ impl<'a> Picture<'a> {
         let agents = if agents == 1 { "1 agent".to_string() } else { format!("{agents} agents") };
         let Said { sentences, order, downwards, .. } = self.said;
         let mut text = format!("{sentences} {agents}, {} events. {downwards}", order.len());
+        if !self.said.list.is_empty() {
+            let list: Vec<&str> = self.said.list.iter().map(|(piece, _)| piece.as_str()).collect();
+            put!(text, " The list: {}.", list.join(" "));
+        }
         for &e in order {
             put!(text, " Event {e}: {}", self.table.events[e]);
             self.words[e].sources.iter().for_each(|source| put!(text, "; {source}"));

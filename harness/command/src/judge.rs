@@ -16,7 +16,7 @@ pub fn arguments(batch: &'static str) -> [Arg; 3] {
         flag("explain").help("Sentences below each line: what it means, what to do, which events it names"),
         flag("json")
             .conflicts_with("explain")
-            .help("A line of JSON each, in place of the line: answer, number, place or names, order"),
+            .help("A line of JSON each, in place of the line: the answer, its parts, its sentences"),
         flag("batch").help(batch),
     ]
 }

@@ -42,6 +42,8 @@ impl List {
     /// Numbers in digits, with spaces, commas or line ends between; `#` begins a comment. Else the line and the word at fault.
     fn parse(text: &str) -> Result<List, (usize, &str)> {
         let mut list = List::default();
+        // a mark that some editors put in front
+        let text = text.strip_prefix('\u{feff}').unwrap_or(text);
         for (line, text) in text.split('\n').enumerate() {
             let text = text.split('#').next().unwrap_or("");
             for word in text.split(|c: char| c == ',' || c.is_whitespace()).filter(|word| !word.is_empty()) {
@@ -131,6 +133,7 @@ mod tests {
             ("0 1 2", list(&[0, 1, 2], &[])),
             ("0,1, 2\t,3", list(&[0, 1, 2, 3], &[])),
             ("# order\r\n3 # the read\r\n\r\n0,\r\n1\r\n", list(&[3, 0, 1], &[])),
+            ("\u{feff}1,0", list(&[1, 0], &[])),
             ("007 000 255", list(&[7, 0, 255], &[])),
             ("1 256 0300 2", list(&[1, 255, 255, 2], &[(1, "256"), (2, "300")])),
             ("99999999999999999999", list(&[255], &[(0, "99999999999999999999")])),

@@ -53,7 +53,7 @@ fn command() -> Command {
         .subcommand_required(true)
         .arg_required_else_help(true)
         .after_help(
-            "Examples:\n  ./plimdrong judge examples/first.sheet\n  ./plimdrong audit examples/litmus --ending .sheet --html target/report.html\n\n\
+            "Examples:\n  ./plimdrong judge examples/first.sheet\n  ./plimdrong check examples/first.sheet 0 1\n  ./plimdrong audit examples/litmus --ending .sheet --html target/report.html\n\n\
              What a sheet is: docs/SHEET.md. What the answers mean: README.md. Each subcommand has its own --help.",
         )
         .subcommands(ENTRIES.iter().map(|entry| (entry.command)()))

@@ -1,7 +1,9 @@
 //! bench: the linked judge and two ordinary Rust judges over the same whole sheets, buffers reused, in one run: one test
 //! by test (`ordinary::same`), one with more tables of masks (`ordinary`). A line for each number of events that are not
-//! inits and each answer: nanoseconds a sheet, and the linked judge's time by the other's. The sheets are of edition 1; with
-//! `--edition 2` the same ones at edition 2, each tear byte as 01's rule gives it.
+//! inits and each answer: nanoseconds a sheet, and the linked judge's time by the other's. Then the linked check of a list
+//! and the ordinary one with masks over the consistent sheets, with the judge's order (accepted), and with its last two
+//! events exchanged (mostly not accepted, at the end). The sheets are of edition 1; with `--edition 2` the same ones at
+//! edition 2, each tear byte as 01's rule gives it.
 
 use second::random::{sized, Rng};
 use second::text::{from_text, to_text};
@@ -39,6 +41,49 @@ fn sheets(n: usize, kind: u64, edition: &str) -> Vec<Vec<u8>> {
         }
     }
     all
+}
+
+type Check = fn(&[u8], &[u8]) -> u64;
+
+/// Seconds for `times` passes over sheets with a list each.
+fn pass_lists(check: Check, lists: &[(Vec<u8>, Vec<u8>)], times: usize) -> f64 {
+    let began = Instant::now();
+    for _ in 0..times {
+        for (sheet, list) in lists {
+            black_box(check(black_box(sheet), black_box(list)));
+        }
+    }
+    began.elapsed().as_secs_f64()
+}
+
+/// The lines for checks of lists.
+fn checks(edition: &str) {
+    println!("| events | list | plimdrong, ns | with masks, ns | ratio |");
+    println!("|---|---|---|---|---|");
+    let checks: [Check; 2] = [plimdrong::check_with, ordinary::check];
+    for n in SIZES {
+        let mut accepted = vec![];
+        for sheet in sheets(n, 3, edition) {
+            let plimdrong::Answer::Consistent { order, .. } = plimdrong::judge(&sheet) else {
+                unreachable!("a consistent sheet")
+            };
+            accepted.push((sheet, order.to_vec()));
+        }
+        let mut exchanged = accepted.clone();
+        exchanged.iter_mut().for_each(|(_, list)| list[n - 1..].reverse());
+        for (name, lists) in [("the judge's", accepted), ("the last two exchanged", exchanged)] {
+            for (sheet, list) in &lists {
+                assert_eq!(checks[0](sheet, list), checks[1](sheet, list));
+            }
+            let once = pass_lists(ordinary::check, &lists, 3) / 3.0;
+            let times = ((ROUND / once) as usize).max(1);
+            let rounds: Vec<[f64; 2]> =
+                (0..ROUNDS).map(|_| checks.map(|check| pass_lists(check, &lists, times))).collect();
+            let lowest = |c: usize| rounds.iter().map(|r| r[c]).fold(f64::INFINITY, f64::min);
+            let each = |c: usize| lowest(c) * 1e9 / (times * lists.len()) as f64;
+            println!("| {n} | {name} | {:.0} | {:.0} | {:.2} |", each(0), each(1), each(0) / each(1));
+        }
+    }
 }
 
 /// Seconds for `times` passes over the sheets.
@@ -94,4 +139,6 @@ fn main() {
             );
         }
     }
+    println!("\nlists checked, the two in turn");
+    checks(edition);
 }

@@ -1,6 +1,7 @@
 #!/bin/sh
-# fuzz.sh [SECONDS]: libFuzzer over plimdrong_judge beside the second program (Debian: clang, libclang-rt-14-dev). What
-# is new is kept in target/fuzz/corpus; a difference or a crash leaves its input in target/fuzz/. Not part of the gate.
+# fuzz.sh [SECONDS]: libFuzzer over plimdrong_judge and plimdrong_check beside the second program (Debian: clang,
+# libclang-rt-14-dev). What is new is kept in target/fuzz/corpus; a difference or a crash leaves its input in target/fuzz/. Not
+# part of the gate.
 #
 # The archive of the judge carries no counters of its own. The fuzzer is led by those of the second program, which is
 # compiled for it: it takes a branch for every clause of document 01, so inputs that reach a new clause are kept.
@@ -15,6 +16,16 @@ out=$root/target/fuzz
 mkdir -p "$out/corpus" "$out/seeds"
 cp "$root"/examples/litmus/*.sheet "$out/seeds/"
 (cd .. && cargo run -q -j1 --release --offline -p second --bin sheets -- files "$out/seeds" 1 1000)
+# and a thousand with a list: sheet, list, the list's length, the byte that says so
+(cd .. && cargo run -q -j1 --release --offline -p second --bin sheets -- lists 1 1000) | python3 -c '
+import sys
+for line in sys.stdin:
+    name, sheet, numbers, answer = line.rstrip("\n").split("\t")
+    numbers = bytes(map(int, filter(None, numbers.split(","))))
+    if len(numbers) < 40:
+        with open(sys.argv[1] + "/list-" + name, "wb") as f:
+            f.write(bytes.fromhex(sheet.strip("-")) + numbers + bytes([len(numbers), 0xfd]))
+' "$out/seeds"
 lib=$(ls "$root"/target/cargo/fuzz/*/release/libfuzz_second.a)
 clang -g -O1 -fsanitize=fuzzer,address -I "$root/include" target.c "$root/target/native/libplimdrong.a" "$lib" \
     -o "$out/target" -lpthread -ldl -lm

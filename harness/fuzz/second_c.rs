@@ -1,4 +1,4 @@
-//! The second program under the C calling convention, with the signature of `plimdrong_judge`.
+//! The second program under the C calling convention, with the signatures of `plimdrong_judge` and `plimdrong_check`.
 
 /// # Safety
 /// The three slices are valid for the call and the two lent ones overlap nothing.
@@ -15,4 +15,13 @@ pub unsafe extern "C" fn second_judge(
     let scratch = std::slice::from_raw_parts_mut(scratch, scratch_len);
     let order = std::slice::from_raw_parts_mut(order, order_len);
     second::judge_into(sheet, scratch, order).word()
+}
+
+/// # Safety
+/// The two slices are valid for the call.
+#[no_mangle]
+pub unsafe extern "C" fn second_check(sheet: *const u8, sheet_len: usize, list: *const u8, list_len: usize) -> u64 {
+    let sheet = std::slice::from_raw_parts(sheet, sheet_len);
+    let list = std::slice::from_raw_parts(list, list_len);
+    second::check(sheet, list).word()
 }

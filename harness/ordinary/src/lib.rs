@@ -2,10 +2,14 @@
 //! `same` goes test by test, as the proved judge did before its steps took masks. The one here has the same closure, bars
 //! and search, and tables of masks (events with equal and with overlapping ranges, writers by byte), so that whole sets
 //! replace tests one by one: today the nearer of the two to the proved judge's method. Both take sheets of editions 1 and 2.
+//! `check` is a check of a list (02 §5) over the same masks.
 
 #![no_std]
 
+mod check;
 pub mod same;
+
+pub use check::check;
 
 /// The head's limits and the sheet's, as document 01 gives them.
 const MAX_SHEET: usize = 4096;
@@ -39,12 +43,11 @@ pub fn judge(sheet: &[u8], scratch: &mut [u8], order: &mut [u8]) -> u64 {
     }
     let marks = &mut scratch[..needed];
     marks.fill(0);
-    let mut t = Tables::of(sheet, &read);
+    let t = Tables::of(sheet, &read);
     if let Some((number, names)) = t.broken(sheet, &read) {
-        return (2 << 40) + ((number as u64) << 32) + u32::from_be_bytes(names) as u64;
+        return broken(number, names);
     }
-    t.fill_bars(sheet, &read);
-    let found = t.first_order(&read, marks, order);
+    let found = Bars::of(&t, sheet, &read).first_order(&t, &read, marks, order);
     marks.fill(0);
     if !found {
         return (2 << 40) + (26 << 32) + u32::MAX as u64;
@@ -57,6 +60,10 @@ pub fn judge(sheet: &[u8], scratch: &mut [u8], order: &mut [u8]) -> u64 {
 
 fn refused(number: u8, place: usize) -> u64 {
     (1 << 40) + ((number as u64) << 32) + place as u64
+}
+
+fn broken(number: u8, names: [u8; 4]) -> u64 {
+    (2 << 40) + ((number as u64) << 32) + u32::from_be_bytes(names) as u64
 }
 
 /// What the reader hands over: counts, and where in the sheet things stand.
@@ -346,6 +353,9 @@ struct Tables {
     pred: [u32; SLOTS],
     /// By byte of memory, the events that write it.
     writers: [u32; 64],
+}
+
+struct Bars {
     /// By V, the W of its bars; `bars[v * 32 + w]` is the mask of R.
     barring: [u32; SLOTS],
     bars: [u32; SLOTS * SLOTS],
@@ -363,8 +373,6 @@ impl Tables {
             succ: [0; SLOTS],
             pred: [0; SLOTS],
             writers: [0; 64],
-            barring: [0; SLOTS],
-            bars: [0; SLOTS * SLOTS],
         };
         let mut ranges = [0u64; SLOTS];
         let mut later = [0u32; 16]; // by agent, its events after this one
@@ -477,9 +485,47 @@ impl Tables {
         None
     }
 
+    /// For a row's R and W: the V for which (a), (b) or (c) forbids W, V, R in that order.
+    #[inline]
+    fn barred(&self, reader: usize, writer: usize) -> u32 {
+        let (e, w) = (reader & 31, writer & 31);
+        let mut between = 0;
+        if self.synchronised(e, w) {
+            between |= self.equal[e];
+        }
+        if bit(self.pred[e], w) {
+            if bit(self.sc, w) {
+                between |= self.equal[w] & self.pred[e];
+            }
+            if bit(self.sc, e) {
+                between |= self.equal[e] & self.succ[w];
+            }
+        }
+        between & self.sc & self.writes & !(1 << e) & !(1 << w)
+    }
+
+    /// The lowest unsettled pair.
+    fn unsettled(&self, n: usize) -> Option<(u8, u8)> {
+        for e in 0..n {
+            let mut with = self.overlap[e] & !self.succ[e] & !self.pred[e] & (u32::MAX << e) << 1;
+            if !bit(self.writes, e) {
+                with &= self.writes;
+            }
+            if bit(self.sc, e) {
+                with &= !(self.sc & self.equal[e]);
+            }
+            if with != 0 {
+                return Some((e as u8, with.trailing_zeros() as u8));
+            }
+        }
+        None
+    }
+}
+
+impl Bars {
     /// `bars[v * 32 + w]`: the R for which (a), (b) or (c) forbids W, V, R in that order.
-    fn fill_bars(&mut self, sheet: &[u8], r: &Read) {
-        let sc_writes = self.sc & self.writes;
+    fn of(t: &Tables, sheet: &[u8], r: &Read) -> Bars {
+        let mut all = Bars { barring: [0; SLOTS], bars: [0; SLOTS * SLOTS] };
         let mut last = (usize::MAX, usize::MAX);
         for i in 0..r.rows {
             let (reader, _, writer) = r.row(sheet, i);
@@ -489,31 +535,20 @@ impl Tables {
             }
             last = (reader, writer);
             let (e, w) = (reader & 31, writer & 31);
-            let mut between = 0;
-            if self.synchronised(e, w) {
-                between |= self.equal[e];
-            }
-            if bit(self.pred[e], w) {
-                if bit(self.sc, w) {
-                    between |= self.equal[w] & self.pred[e];
-                }
-                if bit(self.sc, e) {
-                    between |= self.equal[e] & self.succ[w];
-                }
-            }
-            between &= sc_writes & !(1 << e) & !(1 << w);
+            let mut between = t.barred(e, w);
             while between != 0 {
                 let v = between.trailing_zeros() as usize & 31;
-                self.barring[v] |= 1 << w;
-                self.bars[v * SLOTS + w] |= 1 << e;
+                all.barring[v] |= 1 << w;
+                all.bars[v * SLOTS + w] |= 1 << e;
                 between &= between - 1;
             }
         }
+        all
     }
 
     /// Whether V may be placed next: all before it are placed, and no bar has its W placed and its R not.
-    fn ready(&self, placed: u32, v: usize) -> bool {
-        if self.pred[v & 31] & !placed != 0 {
+    fn ready(&self, t: &Tables, placed: u32, v: usize) -> bool {
+        if t.pred[v & 31] & !placed != 0 {
             return false;
         }
         let mut ws = self.barring[v & 31] & placed;
@@ -528,7 +563,7 @@ impl Tables {
     }
 
     /// Depth first, always the lowest event that may be placed and leads to a set not yet entered; inits stand first.
-    fn first_order(&self, r: &Read, marks: &mut [u8], order: &mut [u8]) -> bool {
+    fn first_order(&self, t: &Tables, r: &Read, marks: &mut [u8], order: &mut [u8]) -> bool {
         let (inits, n) = (r.inits, r.events);
         let all = ((1u64 << n) - 1) as u32;
         let mut path = [0u8; SLOTS];
@@ -544,7 +579,7 @@ impl Tables {
             while left != 0 {
                 let v = left.trailing_zeros() as usize;
                 left &= left - 1;
-                if !self.ready(placed, v) {
+                if !self.ready(t, placed, v) {
                     continue;
                 }
                 let set = ((placed | 1 << v) >> inits) as usize;
@@ -573,22 +608,5 @@ impl Tables {
         }
         order[..n].copy_from_slice(&path[..n]);
         true
-    }
-
-    /// The lowest unsettled pair.
-    fn unsettled(&self, n: usize) -> Option<(u8, u8)> {
-        for e in 0..n {
-            let mut with = self.overlap[e] & !self.succ[e] & !self.pred[e] & (u32::MAX << e) << 1;
-            if !bit(self.writes, e) {
-                with &= self.writes;
-            }
-            if bit(self.sc, e) {
-                with &= !(self.sc & self.equal[e]);
-            }
-            if with != 0 {
-                return Some((e as u8, with.trailing_zeros() as u8));
-            }
-        }
-        None
     }
 }

@@ -1,6 +1,7 @@
-//! Both ordinary judges against the second program, over sheets of both editions: answer and both buffers.
+//! Both ordinary judges against the second program, over sheets of both editions: answer and both buffers. And the ordinary
+//! check of a list.
 
-use second::random::{case, shown, SHOWN};
+use second::random::{case, list_case, shown, shown_list, SHOWN, SHOWN_LISTS};
 
 #[test]
 fn random_sheets() {
@@ -20,5 +21,20 @@ fn random_sheets() {
         seen.extend(shown(&c.sheet, &expected));
     }
     let missing: Vec<&&str> = SHOWN.iter().filter(|what| !seen.contains(**what)).collect();
+    assert!(missing.is_empty(), "never came: {missing:?}");
+}
+
+#[test]
+fn random_lists() {
+    let mut seen = std::collections::BTreeSet::new();
+    for index in 0..60_000 {
+        let c = list_case(21, index, [4, 6, 9, 16][index as usize % 4]);
+        let expected = second::check(&c.sheet, &c.list);
+        let found = ordinary::check(&c.sheet, &c.list);
+        let told = || format!("{}\n{}{:?}\n{}", c.name, second::text::to_text(&c.sheet), c.list, expected.line());
+        assert_eq!(found, expected.word(), "{:x} {}", found, told());
+        seen.extend(shown_list(&c.sheet, &c.list, &expected));
+    }
+    let missing: Vec<&&str> = SHOWN_LISTS.iter().filter(|what| !seen.contains(**what)).collect();
     assert!(missing.is_empty(), "never came: {missing:?}");
 }

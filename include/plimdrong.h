@@ -59,14 +59,14 @@
  *     model allows the execution. Every order that plimdrong_judge gives is accepted.
  *   PLIMDRONG_NOT_ACCEPTED, kind 7: the number is that of the first fault, each tested over the whole list, or all rows,
  *     before the next. An index counts from 0.
- *   1 PLIMDRONG_LIST_LENGTH: there are not as many numbers as events      PLIMDRONG_LENGTH(word) is the list's length
- *     (2^32 - 1 for a longer one)
- *   2 PLIMDRONG_LIST_NUMBER: a number out of range or repeated            PLIMDRONG_INDEX(word) is its index in the list
- *     (of a repeated one, the second)
- *   3 PLIMDRONG_LIST_EARLY: an event before one that happens before it    PLIMDRONG_INDEX(word) is the index of the event
- *     that stands too early
- *   4 PLIMDRONG_LIST_BARRED: in a row, a writing sc V stands after W and before R, where the rules bar it    R W V A as for
- *     24, PLIMDRONG_NAME(word, 0) to (word, 3): of the first such row the lowest V
+ *       1 PLIMDRONG_LIST_LENGTH  There are not as many numbers as events. PLIMDRONG_LENGTH(word) is the list's length,
+ *                                2^32 - 1 for a longer list.
+ *       2 PLIMDRONG_LIST_NUMBER  A number is out of range or repeated. PLIMDRONG_INDEX(word) is its index in the list, of
+ *                                a repeated one the second.
+ *       3 PLIMDRONG_LIST_EARLY   An event stands before one that happens before it. PLIMDRONG_INDEX(word) is the index of
+ *                                the event that stands too early.
+ *       4 PLIMDRONG_LIST_BARRED  In a row, a writing sc event V stands after W and before R, where the rules bar it. The
+ *                                names are R W V A, as for 24: of the first such row the lowest V.
  *
  * EDITIONS. A sheet is of edition 1 or 2: its fourth byte says which, any other number is refused 5. At edition 2 each
  * event has a tear byte before its data, 0 may tear, 1 tear-free; rule 25 goes by it. At edition 1 there is none, and an

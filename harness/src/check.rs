@@ -212,16 +212,23 @@ fn too_early(sheet: &[u8], list: &[u8]) -> Option<usize> {
 /// All events of the list that can be placed while `held` is not: each when all that happen before it are placed. Those that
 /// are left out are `held` and what it happens before. The checker itself is asked, so there is no second happens-before.
 fn placed_without(sheet: &[u8], list: &[u8], held: u8) -> Vec<u8> {
-    let (mut placed, mut left): (Vec<u8>, Vec<u8>) = (vec![], list.to_vec());
-    let fits = |placed: &[u8], left: &[u8], next: usize| {
-        let (before, behind) = left.split_at(next);
-        let tried = [placed, &behind[..1], before, &behind[1..]].concat();
-        too_early(sheet, &tried).is_none_or(|early| early > placed.len())
-    };
-    while let Some(next) = (0..left.len()).find(|&i| left[i] != held && fits(&placed, &left, i)) {
-        placed.push(left.remove(next));
+    let mut placed: Vec<u8> = vec![];
+    loop {
+        let before = placed.len();
+        for &next in list {
+            if next == held || placed.contains(&next) {
+                continue;
+            }
+            let behind = list.iter().filter(|e| **e != next && !placed.contains(e));
+            let tried: Vec<u8> = placed.iter().chain([&next]).chain(behind).copied().collect();
+            if too_early(sheet, &tried).is_none_or(|early| early > placed.len()) {
+                placed.push(next);
+            }
+        }
+        if placed.len() == before {
+            return placed;
+        }
     }
-    placed
 }
 
 impl Checked {

@@ -1,6 +1,6 @@
 -- The laws of specs/Read.antt: what is read from a word is the answer that it was made of. Assumes nothing.
 --     names-in, pair-in     names and pairs, from their four places
---     four-in               the four names of a word
+--     bytes-in, four-in     the four bytes of a word, its four names
 --     kind-in, number-in, place-in     the parts of a word
 --     answer-in             answerIn (packed x) ≡ x, where no name is 255
 --     packed-unique         so two answers with one word are one answer
@@ -46,7 +46,7 @@ name-back (Number k) h = rw (ne-eqb k 255 (λ e. omega arith)) refl
 name-back None h = refl
 
 -- the bytes of a word, by numbers alone
-bytes-in : (k n a b c d : ℕ) → a < 256 → b < 256 → c < 256 → d < 256
+pub bytes-in : (k n a b c d : ℕ) → a < 256 → b < 256 → c < 256 → d < 256
     → (byteIn (word k n (a * 2 ^ 24 + b * 2 ^ 16 + c * 2 ^ 8 + d)) 0 ≡ a) × (byteIn (word k n (a * 2 ^ 24 + b * 2 ^ 16 + c * 2 ^ 8 + d)) 1 ≡ b)
     × (byteIn (word k n (a * 2 ^ 24 + b * 2 ^ 16 + c * 2 ^ 8 + d)) 2 ≡ c) × (byteIn (word k n (a * 2 ^ 24 + b * 2 ^ 16 + c * 2 ^ 8 + d)) 3 ≡ d)
 bytes-in k n a b c d p q r s = (omega arith, omega arith, omega arith, omega arith)

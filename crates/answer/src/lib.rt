@@ -107,7 +107,7 @@ fn byte_of(n: Name) -> u8
 }
 
 // Four names as bytes, the first most significant.
-fn four_bytes(f: Four) -> u32
+pub fn four_bytes(f: Four) -> u32
     ensures { λ r. ⌜ r ≡ fourBytes f ⌝ }
 {
     let first = f.0;

@@ -33,8 +33,8 @@ fn reasons(a: Shape, b: Shape, as_a: u32, as_b: u32, wr: bool, before: u32, afte
     x | (y | z)
 }
 
-// The events that a row bars between its writer and its reader.
-fn of_row(
+// The events that a row bars between its writer and its reader; eq has the sets of equal ranges.
+pub fn of_row(
     t: &[u8; COLUMNS],
     eq: &[u32; ACCESSES],
     succ: &[u32; SLOTS],

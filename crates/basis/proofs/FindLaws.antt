@@ -5,6 +5,7 @@
 --     find-at, find-no                                of the numbers below n: the least that passes; none does
 --     find-firsts, least-pair, no-pair                of pairs: by a test of the first part; the least that passes; none does
 --     else-none, none-else, mapped-none, none-mapped  one search after another; what is found, with its names
+--     else-cases, mapped-some, same-some              the same, where something is found
 --     Sorted R l, sorted-by, sorted-from, sorted-across     each entry is R to those behind it; by places; numbers; pairs, the first parts
 --                                                     deciding (`Then`)
 --     find-least                                      of a sorted list, `find` gives the least entry that passes
@@ -64,7 +65,21 @@ module _ {A : Type 0} where
   none-else none b p q = q
   none-else (some a) b p q = absurd (never p)
 
+  -- what one search after another finds, one of them found
+  pub else-cases : (a b : Option A) {x : A} → (a else b) ≡ some x → (a ≡ some x) ⊎ ((a ≡ none) × (b ≡ some x))
+  unfolding _else_
+  else-cases none b h = inr (refl, h)
+  else-cases (some a) b h = inl h
+
+  pub same-some : {a b : A} → some a ≡ some b → a ≡ b
+  same-some e = cc
+
 module _ {A B : Type 0} where
+  pub mapped-some : (g : A → B) (o : Option A) {x : B} → mapped g o ≡ some x → (a : A) × (o ≡ some a) × (g a ≡ x)
+  unfolding mapped
+  mapped-some g none h = absurd (never (sym h))
+  mapped-some g (some a) h = (a, refl, same-some h)
+
   pub mapped-none : (f : A → B) (o : Option A) → mapped f o ≡ none → o ≡ none
   unfolding mapped
   mapped-none f none e = refl

@@ -11,7 +11,7 @@
 --     each-length, each-more        its length; with one entry more
 --     entry-split                   a list as what stands before an entry, the entry, and what stands behind it
 --     each-at, each-past, zeros-at  an entry of mapped numbers, by its place; of a row of zeros
---     across-left, across-mem       a pair of two lists' entries
+--     across-left, across-right, across-mem     a pair of two lists' entries
 use mathlib.Core.Path.{_≡_, refl, sym, ap, _∙_, subst}
 use mathlib.Core.Logic.{_⊎_, inl, inr, ⊎-elim}
 use mathlib.Core.Bool.{Bool, true, false}
@@ -207,6 +207,15 @@ module _ {A B : Type 0} where
       on : List·Memᴰ p (each (λ (b : B). (a, b)) m) ⊎ List·Memᴰ p (across l m) → (List·Memᴰ p (across l m) → List·Memᴰ (p .0) l) → List·Memᴰ (p .0) (a ∷ l)
       on (inl q) ih = let w = each-elim (λ (b : B). (a, b)) m p q in List·Memᴰ·head (sym (ap (λ (t : A × B). t .0) (w .1 .1)))
       on (inr q) ih = List·Memᴰ·tail (ih q)
+
+  pub across-right : (l : List A) (m : List B) (p : A × B) → List·Memᴰ p (across l m) → List·Memᴰ (p .1) m
+  unfolding across
+  across-right [] m p k = absurd (List·Memᴰ·not-nil k)
+  across-right (a ∷ l) m p k = on (List·Memᴰ·append-cases (each (λ (b : B). (a, b)) m) k) (across-right l m p)
+    where
+      on : List·Memᴰ p (each (λ (b : B). (a, b)) m) ⊎ List·Memᴰ p (across l m) → (List·Memᴰ p (across l m) → List·Memᴰ (p .1) m) → List·Memᴰ (p .1) m
+      on (inl q) ih = let w = each-elim (λ (b : B). (a, b)) m p q in subst (λ (b : B). List·Memᴰ b m) (ap (λ (t : A × B). t .1) (w .1 .1)) (w .1 .0)
+      on (inr q) ih = ih q
 
   pub across-mem : (l : List A) (m : List B) (a : A) (b : B) → List·Memᴰ a l → List·Memᴰ b m → List·Memᴰ {A = A × B} (a, b) (across l m)
   unfolding across

@@ -1,6 +1,7 @@
 -- The bars in the tables are the model's bars, for events with any number of accesses. Assumes nothing.
 --     matches-at      an access with an equal range at a byte is the event's access at that byte
 --     row-bars        a row bars the same events by the tables and by the model
+--     row-barred      the same of a row of the execution
 --     barred          the table of masks holds the model's bars
 use mathlib.Core.Path.{_≡_, refl, sym, ap, _∙_, subst}
 use mathlib.Core.Bool.{Bool, true, false}
@@ -206,6 +207,16 @@ module _ (x : Execution) (t : List ℕ) (n : ℕ) (tb : Tabled x t n) where
 
   -- ---- the whole table
 
+  module _ (succ pred : List ℕ) (so : Sound x) (turned : Turned succ pred) where
+    -- a row of the execution
+    pub row-barred : (p : Row) → List·Memᴰ p (x .rows) → (v : ℕ) → v < slots → rowBarsIn t n succ pred p v ≡ rowBars x (hbOf succ) p v
+    row-barred p i v hv =
+        let z = tb .count in
+        let y = tb .few in
+        let dr = reader-inside x so p i in
+        let dw = writer-inside x so p i in
+        row-bars succ pred turned p v hv (omega arith) (omega arith) (reads-covers _ _ (so .row-reads p i)) (writes-covers _ _ (so .row-writes p i))
+
   module _ (succ pred q : List ℕ) (m : ℕ) (so : Sound x) (rowed : Rowed x q m) (turned : Turned succ pred) where
     pub barred : (r w v : ℕ) → w < slots → v < slots → mem (getD (filledIn t n succ pred q m (replicate (slots * slots) 0)) (v * slots + w) 0) r ≡ bar x (hbOf succ) r w v
     unfolding bar
@@ -219,10 +230,4 @@ module _ (x : Execution) (t : List ℕ) (n : ℕ) (tb : Tabled x t n) where
       where
         same : (j : ℕ) → List·Memᴰ j (from 0 m) → rowBarsIn t n succ pred (rowIn q j) v ≡ rowBars x (hbOf succ) (rowIn q j) v
         same j k =
-            let p = rowIn q j in
-            let i : List·Memᴰ p (x .rows) = subst (λ (l : List Row). List·Memᴰ p l) (sym rowed) (each-mem (rowIn q) (from 0 m) j k) in
-            let z = tb .count in
-            let y = tb .few in
-            let dr = reader-inside x so p i in
-            let dw = writer-inside x so p i in
-            row-bars succ pred turned p v hv (omega arith) (omega arith) (reads-covers _ _ (so .row-reads p i)) (writes-covers _ _ (so .row-writes p i))
+            row-barred succ pred so turned (rowIn q j) (subst (λ (l : List Row). List·Memᴰ (rowIn q j) l) (sym rowed) (each-mem (rowIn q) (from 0 m) j k)) v hv

@@ -4,12 +4,14 @@
 --     sheet-held       the tables, filled and closed, hold the sheet's execution and its happens-before
 --     sheet-rules      the first broken rule of 21 to 25
 --     held-bars        the bars
+--     held-row         what one row bars
 --     held-settled     orderly, or the lowest unsettled pair
 use mathlib.Core.Path.{_≡_, ap, ap₂, _∙_, subst}
-use mathlib.Core.List.{List}
+use mathlib.Core.List.{List, List·Memᴰ}
 use Prim.Native.Nat.{ℕ, _+_, _*_, _<_, _≤_, min}
 use native.Mathlib.Omega.{arith}
 use lib.ListN.{getD, replicate}
+use Rattle.format.specs.declared.Row.{Row}
 use Rattle.format.specs.Execution.{Execution}
 use Rattle.entries.specs.declared.Counts.{Counts}
 use Rattle.entries.specs.Entries.{execution}
@@ -17,13 +19,16 @@ use Rattle.sheet.specs.Handed.{Laid}
 use Rattle.parse.specs.Promise.{WellFormed}
 use Rattle.entries.proofs.EntriesLaws.{rows-count}
 use Rattle.sets.specs.Mask.{slots, mem}
-use Rattle.model.specs.Bar.{bar}
+use Rattle.model.specs.Bar.{rowBars, bar}
 use Rattle.model.specs.Rules.{fault}
 use Rattle.model.specs.Unsettled.{unsettledPair}
 use Rattle.model.specs.Judged.{settledOf}
 use Rattle.model.proofs.Sound.{Sound, sound}
+use Rattle.model.proofs.HappensLaws.{reader-inside, writer-inside}
 use Rattle.tables.specs.Tables.{columns, rowRoom, rowCells, pairRoom}
-use Rattle.bars.specs.Bars.{filledIn}
+use Rattle.alike.specs.Ranges.{equalsIn}
+use Rattle.bars.specs.Bars.{maskIn, filledIn}
+use Rattle.bars.proofs.BarsLaws.{mask-mem}
 use Rattle.before.specs.Before.{ClosedSteps}
 use Rattle.settle.specs.Settle.{settledIn}
 use Rattle.lay.specs.Lay.{Layered}
@@ -33,7 +38,7 @@ use Rattle.front.specs.Steps.{Stored}
 use Rattle.front.proofs.TabledLaws.{slotted-one, tabled, owned}
 use Rattle.front.proofs.LaidLaws.{laid-tabled, laid-agents, laid-rowed, laid-seen, laid-paired, pairs-few}
 use Rattle.parse.proofs.CountLaws.{rows-few as eight-each}
-use Rattle.front.proofs.BarredLaws.{barred}
+use Rattle.front.proofs.BarredLaws.{row-barred, barred}
 use Rattle.front.proofs.SettledLaws.{settled}
 use Rattle.front.proofs.Steps.{happens-before, rules}
 
@@ -102,6 +107,14 @@ module _ {x : Execution} {n m : ℕ} {t q succ pred : List ℕ} (h : Held x n m 
       let b : min m rowRoom ≡ m = let k = h .rows-few in omega arith in
       ap (λ (l : List ℕ). mem (getD l (v * slots + w) 0) r) (f ∙ ap₂ (λ (i j : ℕ). filledIn t i succ pred q j (replicate (slots * slots) 0)) a b)
       ∙ barred x t n (h .tabled) succ pred q m so (h .rowed) (h .turned) r w v hw hv
+
+  pub held-row : Sound x → (r : Row) → List·Memᴰ r (x .rows) → (v : ℕ) → v < slots → mem (maskIn t (equalsIn t n) succ pred r) v ≡ rowBars x (hbOf succ) r v
+  held-row so r i v hv =
+      let c = h .tabled .count in
+      let f = h .tabled .few in
+      let dr = reader-inside x so r i in
+      let dw = writer-inside x so r i in
+      mask-mem t succ pred n f r v (omega arith) (omega arith) ∙ row-barred x t n (h .tabled) succ pred so (h .turned) r i v hv
 
   pub held-settled : settledIn t succ (min n slots) ≡ settledOf (unsettledPair x (hbOf succ))
   held-settled =

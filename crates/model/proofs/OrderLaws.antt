@@ -1,6 +1,4 @@
--- Places in a list (orders/specs/Order.antt), and the inits: what lets a search begin behind them. Assumes nothing.
---     distinct-apart, distinct-loop                    what stands before what, each number once
---     precedes-more, precedes-over, in-front           lists put together
+-- The orders that meet the rules, and the inits: what lets a search begin behind them. Assumes nothing.
 --     inits-others                                     every event is an init or another
 --     meets-length                                     an order that meets the rules has as many entries as there are events
 --     begins                                           `Begins (problem x hb) (inits (x .events))`: what `ordered-first`, `ordered-none` ask for
@@ -33,45 +31,6 @@ use Rattle.model.specs.Order.{problem}
 use Rattle.model.proofs.Sound.{Sound}
 use Rattle.model.proofs.HappensLaws.{happens-inside, init-earliest, init-not-sc, reader-inside}
 use Rattle.model.proofs.BarLaws.{RowBars, row-bars, bar-elim}
-
-pub distinct-apart : (a : ℕ) (l : List ℕ) → Distinct l → Precedes a a l → ⊥
-distinct-apart a [] d h = h
-distinct-apart a (c ∷ l) d (inl h) = d .0 (subst (λ (i : ℕ). In i l) (h .0) (h .1))
-distinct-apart a (c ∷ l) d (inr h) = distinct-apart a l (d .1) h
-
--- not each before the other
-pub distinct-loop : (a b : ℕ) (l : List ℕ) → Distinct l → Precedes a b l → Precedes b a l → ⊥
-distinct-loop a b [] d p q = p
-distinct-loop a b (c ∷ l) d (inl p) (inl q) = d .0 (subst (λ (i : ℕ). In i l) (p .0) (q .1))
-distinct-loop a b (c ∷ l) d (inl p) (inr q) = d .0 (subst (λ (i : ℕ). In i l) (p .0) (precedes-in b a l q))
-distinct-loop a b (c ∷ l) d (inr p) (inl q) = d .0 (subst (λ (i : ℕ). In i l) (q .0) (precedes-in a b l p))
-distinct-loop a b (c ∷ l) d (inr p) (inr q) = distinct-loop a b l (d .1) p q
-
-pub in-left : (a : ℕ) (l k : List ℕ) → In a l → In a (l ++ k)
-in-left a [] k h = absurd h
-in-left a (c ∷ l) k (inl h) = inl h
-in-left a (c ∷ l) k (inr h) = inr (in-left a l k h)
-
-pub in-right : (a : ℕ) (l k : List ℕ) → In a k → In a (l ++ k)
-in-right a [] k h = h
-in-right a (c ∷ l) k h = inr (in-right a l k h)
-
-pub precedes-more : (a b : ℕ) (l k : List ℕ) → Precedes a b l → Precedes a b (l ++ k)
-precedes-more a b [] k h = absurd h
-precedes-more a b (c ∷ l) k (inl h) = inl (h .0, in-left b l k (h .1))
-precedes-more a b (c ∷ l) k (inr h) = inr (precedes-more a b l k h)
-
-pub precedes-over : (a b : ℕ) (l k : List ℕ) → In a l → In b k → Precedes a b (l ++ k)
-precedes-over a b [] k h g = absurd h
-precedes-over a b (c ∷ l) k (inl h) g = inl (h, in-right b l k g)
-precedes-over a b (c ∷ l) k (inr h) g = inr (precedes-over a b l k h g)
-
--- what stands before e stands in front of e's one place
-pub in-front : (a e : ℕ) (l k : List ℕ) → Distinct (l ++ e ∷ k) → Precedes a e (l ++ e ∷ k) → In a l
-in-front a e [] k d (inl h) = absurd (d .0 (h .1))
-in-front a e [] k d (inr h) = absurd (d .0 (precedes-in a e k h))
-in-front a e (c ∷ l) k d (inl h) = inl (h .0)
-in-front a e (c ∷ l) k d (inr h) = inr (in-front a e l k (d .1) h)
 
 -- ---- inits first
 

@@ -32,7 +32,7 @@ use Rattle.model.proofs.HappensLaws.{row-step}
 use Rattle.model.proofs.RulesLaws.{clean, test24}
 use Rattle.model.proofs.BarLaws.{bars-row, bar-intro}
 use Rattle.model.proofs.UnsettledLaws.{settles}
-use Rattle.model.proofs.OrderLaws.{distinct-apart, distinct-loop, precedes-more, precedes-over, in-front}
+use Rattle.orders.proofs.PlaceLaws.{distinct-apart, distinct-loop, precedes-more, precedes-over, in-front}
 use Rattle.model.proofs.MemoryLaws.{last-writer}
 use Rattle.orders.proofs.OrderLaws.{precedes-in}
 

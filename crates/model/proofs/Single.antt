@@ -36,7 +36,7 @@ use Rattle.model.specs.Unsettled.{clash, unsettled}
 use Rattle.model.specs.Sentences.{firstShape, shape, OneAccessEach, sync01, init01, between01, torn01, bars01, unsettled01, Meets01, Reduced}
 use Rattle.model.proofs.Sound.{Sound}
 use Rattle.model.proofs.BarLaws.{row-bars, bars-row, bar-elim, bar-intro}
-use Rattle.model.proofs.OrderLaws.{distinct-apart}
+use Rattle.orders.proofs.PlaceLaws.{distinct-apart}
 
 pub one-access : (x : Execution) → WellFormed x → OneAccessEach x
 one-access x wf e h = let w = wf .events e h in (w .access, w .one-access)

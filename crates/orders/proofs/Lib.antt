@@ -1,6 +1,7 @@
 pub mod FirstLaws
 pub mod StepLaws
 pub mod OrderLaws
+pub mod PlaceLaws
 pub mod InitsLaws
 pub mod TablesLaws
 pub mod TrailLaws

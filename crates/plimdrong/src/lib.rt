@@ -6,6 +6,7 @@ ghost use Rattle.plimdrong.specs.JudgedWord.{JudgedWord};
 ghost use Rattle.encode.specs.Lend.{five};
 ghost use Rattle.plimdrong.specs.WrittenWord.{WrittenWord};
 ghost use Rattle.plimdrong.specs.TableWord.{TableWord};
+ghost use Rattle.plimdrong.specs.CheckedWord.{CheckedWord};
 
 #[no_mangle]
 pub extern "C" fn plimdrong_judge(sheet: &[u8], scratch: &mut [u8], order: &mut [u8]) -> u64
@@ -42,4 +43,12 @@ pub extern "C" fn plimdrong_table(
     ensures { λ r. ⌜ TableWord (now (sheet .entry)) (five (now (head .entry)) (now (events .entry)) (now (bytes .entry)) (now (rows .entry)) (now (pairs .entry))) r (five (now (head .exit)) (now (events .exit)) (now (bytes .exit)) (now (rows .exit)) (now (pairs .exit))) ⌝ }
 {
     lend::pack(lend::lend(sheet, head, events, bytes, rows, pairs))
+}
+
+// Holds a list of event numbers, such as the order of an engine's own log, against a sheet (02 §5).
+#[no_mangle]
+pub extern "C" fn plimdrong_check(sheet: &[u8], list: &[u8]) -> u64
+    ensures { λ r. ⌜ CheckedWord (now (sheet .entry)) (now (list .entry)) r ⌝ }
+{
+    log_check::pack(log_check::check(sheet, list))
 }

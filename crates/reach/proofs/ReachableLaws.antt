@@ -1,5 +1,4 @@
--- The laws of specs/Reachable.antt: lists of different numbers, and counts of sets. Assumes nothing.
---     distinct-le       a list of different numbers is no longer than a list that has them all
+-- The laws of specs/Reachable.antt: counts of sets. Assumes nothing.
 --     counted-unique    there is one number of reachable sets
 --     counted-pos       it is at least 1
 --     counted-most      it is at most 2 ^ n, where n events are no inits
@@ -21,36 +20,9 @@ use Rattle.orders.specs.Problem.{Problem}
 use Rattle.orders.specs.Order.{In, Distinct}
 use Rattle.reach.specs.Reachable.{Reached, start, place, Counted, Exceeds, CountIs}
 use Rattle.orders.proofs.FirstLaws.{Tri, below, same, tri}
+use Rattle.orders.proofs.PlaceLaws.{distinct-le}
 use Rattle.orders.proofs.InitsLaws.{from-length}
 use Rattle.orders.proofs.TrailLaws.{Full}
-
--- the list without a place of x
-without : (x : ℕ) (l : List ℕ) → In x l → List ℕ
-without x [] h = []
-without x (y ∷ l) (inl p) = l
-without x (y ∷ l) (inr h) = y ∷ without x l h
-
-without-length : (x : ℕ) (l : List ℕ) (h : In x l) → suc (length (without x l h)) ≡ length l
-unfolding without
-without-length x [] h = absurd h
-without-length x (y ∷ l) (inl p) = refl
-without-length x (y ∷ l) (inr h) = ap suc (without-length x l h)
-
-without-in : (x z : ℕ) (l : List ℕ) (h : In x l) → (z ≡ x → ⊥) → In z l → In z (without x l h)
-unfolding without
-without-in x z [] h f g = g
-without-in x z (y ∷ l) (inl p) f (inl q) = absurd (f (q ∙ sym p))
-without-in x z (y ∷ l) (inl p) f (inr q) = q
-without-in x z (y ∷ l) (inr h) f (inl q) = inl q
-without-in x z (y ∷ l) (inr h) f (inr q) = inr (without-in x z l h f q)
-
-pub distinct-le : (a b : List ℕ) → Distinct a → ((x : ℕ) → In x a → In x b) → length a ≤ length b
-distinct-le [] b d h = omega arith
-distinct-le (x ∷ a) b d h =
-    let k = h x (inl refl) in
-    let i = distinct-le a (without x b k) (d .1) (λ z q. without-in x z b k (λ e. d .0 (subst (λ (y : ℕ). In y a) e q)) (h z (inr q))) in
-    let j = without-length x b k in
-    omega arith
 
 -- ---- there is one number
 

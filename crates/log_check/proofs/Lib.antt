@@ -1,0 +1,4 @@
+pub mod CheckedLaws
+pub mod WordLaws
+pub mod Demands
+pub mod Examples

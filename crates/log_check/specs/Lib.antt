@@ -1,0 +1,4 @@
+pub mod Checked
+pub mod Word
+pub mod Demands
+pub mod Examples

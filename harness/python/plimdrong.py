@@ -14,8 +14,15 @@ Without its row the sheet is refused: no row is guessed.
 >>> judge(sheet[:24])
 'refused 11 at 15'
 
+An order from an engine's own log is checked: it is accepted where it names every event once and meets the rules.
+
+>>> check(sheet, [0, 1])
+'accepted'
+>>> check(sheet, [1, 0])
+'not accepted 3 at 0'
+
 This is ctypes over target/native/libplimdrong.so, which harness/shared.sh makes; PLIMDRONG_LIBRARY names another one. It
-needs the standard library and nothing else. What is proved is the function behind `judge`. Trusted are the compiler's back
+needs the standard library and nothing else. What is proved is the functions behind `judge` and `check`. Trusted are the compiler's back
 end, the linker, ctypes, and the reading of the 64-bit answer here (include/plimdrong.h says what it holds).
 
 For an archive: `names` and `listed` give the names of its records, `row` a record's line of the CSV that `plimdrong audit`
@@ -25,12 +32,13 @@ writes. `python3 plimdrong.py FILE..` prints the lines that ./verdict prints.
 import ctypes
 import errno
 import hashlib
+import operator
 import os
 import stat
 import sys
 import threading
 
-__all__ = ["judge", "judge_many", "names", "listed", "row", "read", "line_of_csv", "status", "Unreadable", "HEADER"]
+__all__ = ["judge", "judge_many", "check", "names", "listed", "row", "read", "line_of_csv", "status", "Unreadable", "HEADER"]
 
 MAX_SHEET = 4096
 MAX_SCRATCH = 8192
@@ -47,7 +55,7 @@ UNTOUCHED = bytes([NONE]) * MAX_EVENTS
 _Scratch = ctypes.c_char * MAX_SCRATCH
 _Order = ctypes.c_char * MAX_EVENTS
 _lock = threading.Lock()
-_function = None
+_functions = {}
 
 
 def _library():
@@ -59,20 +67,19 @@ def _library():
     return os.path.join(root, "target", "native", "libplimdrong.so")
 
 
-def _load():
-    """The exported function, loaded once. CDLL: a call lets other threads run."""
-    global _function
+def _load(name, lent):
+    """An exported function of a sheet and so many lent slices, loaded once. CDLL: a call lets other threads run."""
     with _lock:
-        if _function is None:
+        if name not in _functions:
             path = _library()
             try:
-                function = ctypes.CDLL(path).plimdrong_judge
+                function = getattr(ctypes.CDLL(path), name)
             except (OSError, AttributeError) as why:
                 raise OSError(f"{path} cannot be loaded ({why}): run harness/shared.sh, or set PLIMDRONG_LIBRARY") from why
             function.restype = ctypes.c_uint64
-            function.argtypes = [ctypes.c_char_p, ctypes.c_size_t] + [ctypes.c_void_p, ctypes.c_size_t] * 2
-            _function = function
-    return _function
+            function.argtypes = [ctypes.c_char_p, ctypes.c_size_t] + [ctypes.c_void_p, ctypes.c_size_t] * lent
+            _functions[name] = function
+    return _functions[name]
 
 
 # ---- the answer
@@ -81,38 +88,77 @@ def _load():
 RULES = {21: "11-1", 22: "1---", 23: "11-1", 24: "1111", 25: "111-", 26: "----"}
 
 
+def _parts(word):
+    """Kind, number, the 32 bits, and these as four bytes."""
+    low = word & 0xFFFFFFFF
+    return word >> 40 & 255, word >> 32 & 255, low, low.to_bytes(4, "big")
+
+
+def _no_answer(word):
+    return RuntimeError(f"{word:#x} is no answer: the library is of another version; run harness/shared.sh, and use its plimdrong.py")
+
+
+def _of_the_sheet(word, unknown):
+    """The line of a sheet that is refused or broken; None for every other word and for a number that is unknown."""
+    kind, number, low, called = _parts(word)
+    if kind == 1 and 1 <= number <= 14 and number not in unknown:
+        return f"refused {number} at {low}"
+    if kind == 2 and "".join("-" if n == NONE else "1" for n in called) == RULES.get(number) and number not in unknown:
+        return f"broken {number} " + " ".join("-" if n == NONE else str(n) for n in called)
+    return None
+
+
 def _line(word, order):
     """The report line of a word and the order buffer after it, every byte of which was 255 before the call."""
-    kind, number, low = word >> 40 & 255, word >> 32 & 255, word & 0xFFFFFFFF
-    if kind == 1 and 1 <= number <= 14:
-        return f"refused {number} at {low}"
-    called = low.to_bytes(4, "big")
-    if kind == 2 and "".join("-" if n == NONE else "1" for n in called) == RULES.get(number):
-        return f"broken {number} " + " ".join("-" if n == NONE else str(n) for n in called)
+    line = _of_the_sheet(word, ())
+    if line:
+        return line
+    kind, number, low, called = _parts(word)
     if kind == 3:
         then = " ".join(map(str, order.partition(b"\xff")[0]))
         if number == 0 and low == 0xFFFFFFFF:
             return "consistent orderly then " + then
         if number == 1 and low & 0xFFFF == 0xFFFF and NONE not in called[:2]:
             return f"consistent unsettled {called[0]} {called[1]} then {then}"
-    raise RuntimeError(f"{word:#x} is no answer: the library is of another version; run harness/shared.sh, and use its plimdrong.py")
+    raise _no_answer(word)
+
+
+def _checked(word):
+    """The line of a word that says something of a list. 12, 13 and 26 are no answers there."""
+    line = _of_the_sheet(word, (12, 13, 26))
+    if line:
+        return line
+    kind, number, low, called = _parts(word)
+    if kind == 6 and number == 0 and low == 0:
+        return "accepted"
+    if kind == 7 and number == 1:
+        return f"not accepted 1 length {low}"
+    if kind == 7 and number in (2, 3):
+        return f"not accepted {number} at {low}"
+    if kind == 7 and number == 4 and NONE not in called:
+        return "not accepted 4 " + " ".join(map(str, called))
+    raise _no_answer(word)
 
 
 class _Judge:
     """The function with buffers for every sheet, for one thread at a time."""
 
     def __init__(self):
-        self.function = _load()
+        self.function = _load("plimdrong_judge", 2)
         self.scratch = _Scratch()
 
     def line(self, sheet):
-        if type(sheet) is not bytes:
-            sheet = _bytes(sheet)
-        if len(sheet) > LOOKED_AT:
-            sheet = sheet[:LOOKED_AT]
+        sheet = _front(sheet)
         # The order is a call's own: a signal's handler may judge too, between the call and the reading of its answer.
         order = _Order.from_buffer_copy(UNTOUCHED)
         return _line(self.function(sheet, len(sheet), self.scratch, MAX_SCRATCH, order, MAX_EVENTS), order.raw)
+
+
+def _front(sheet):
+    """A sheet's bytes, as many as are looked at."""
+    if type(sheet) is not bytes:
+        sheet = _bytes(sheet)
+    return sheet[:LOOKED_AT] if len(sheet) > LOOKED_AT else sheet
 
 
 def _bytes(sheet):
@@ -151,6 +197,45 @@ def judge_many(sheets):
     line = _Judge().line
     for sheet in sheets:
         yield line(sheet)
+
+
+def check(sheet, events):
+    """What the checker says of a sheet and of a list of event numbers: bytes, a byte a number, or any numbers in their order.
+
+    The line is `accepted`, or `not accepted` with the first fault: 1, the list's length; 2, a number out of range or repeated,
+    and 3, an event before one that happens before it, with its index; 4, the reader, the writer, the write between and the
+    address. A sheet that is refused, or broken by 21 to 25, is answered so, as `judge` does it. Threads may call it side by side.
+
+    >>> check(b"", [])
+    'refused 3 at 0'
+
+    A number that is no byte is out of range for every sheet:
+
+    >>> sheet = bytes([1, 0, 3, 1, 1, 1, 2, 0, 6, 0, 2, 0, 0, 1, 0, 2, 0, 6, 1, 1, 1, 0, 1, 0, 3, 0, 3, 1, 0, 0])
+    >>> [check(sheet, events) for events in (b"", [0, 1000], [-1, 1], range(2))]
+    ['not accepted 1 length 0', 'not accepted 2 at 1', 'not accepted 2 at 0', 'accepted']
+    >>> check(sheet, "0 1")
+    Traceback (most recent call last):
+    TypeError: a list is of event numbers, as [0, 1] or bytes, and not str
+    """
+    sheet, events = _front(sheet), _numbers(events)
+    return _checked(_load("plimdrong_check", 1)(sheet, len(sheet), events, len(events)))
+
+
+def _numbers(events):
+    """Event numbers as bytes. One that is no byte becomes 255, which is no event of any sheet either."""
+    if isinstance(events, (bytes, bytearray, memoryview)):
+        return bytes(events)
+    wrong = type(events).__name__
+    if not isinstance(events, str):
+        try:
+            events = list(events)
+            wrong = next((f"{type(event).__name__} in it" for event in events if not hasattr(event, "__index__")), None)
+        except TypeError:
+            pass
+    if wrong:
+        raise TypeError(f"a list is of event numbers, as [0, 1] or bytes, and not {wrong}")
+    return bytes(event if 0 <= event <= NONE else NONE for event in map(operator.index, events))
 
 
 # ---- the records of an archive

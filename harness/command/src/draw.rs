@@ -2,14 +2,16 @@
 //!
 //! A column for the inits and for each agent, events from top to bottom in the order that was reported (in the
 //! sheet's order where there is none), a line from each writer to its reader, dashed lines for pairs. What the answer
-//! names has a thick red edge and says its part.
+//! names has a thick red edge and says its part. Of a list of events the order is the list's, and what is wrong with it is
+//! red: its numbers, its events, the row or the step of happens-before that it goes against.
 
 use crate::layout::{Layout, Rect, Wanted, WantedBox, WantedLine};
 use crate::names::escaped;
+use crate::said::Said;
 use crate::write::{carry, one_to_one, Made};
-use crate::{sentence, Entry, FOUND};
+use crate::{Entry, FOUND};
 use clap::{ArgMatches, Command};
-use plimdrong::{mode, Answer, Event, Judge, Rule, Table};
+use plimdrong::{mode, Answer, Event, Judge, Table};
 use std::collections::BTreeSet;
 use std::fmt::Write;
 
@@ -45,7 +47,12 @@ macro_rules! put {
 /// A picture of a well-formed sheet's table and its answer. `name` is the sheet's, `id` stands in front of every id, so
 /// that many pictures can stand in one page: letters, digits and hyphens.
 pub fn picture(table: &Table, answer: &Answer, name: &str, id: &str) -> String {
-    Picture::of(table, answer).svg(name, id)
+    told(table, &Said::of_sheet(answer, table.events.len()), name, id)
+}
+
+/// The same, whatever was said of it.
+pub fn told(table: &Table, said: &Said, name: &str, id: &str) -> String {
+    Picture::of(table, said).svg(name, id)
 }
 
 const TOP: i32 = 104;
@@ -53,11 +60,14 @@ const BOTTOM: i32 = 46;
 const LINE: i32 = 16;
 /// Left and right of a box's text, above and below it.
 const PAD: (i32, i32) = (10, 7);
-/// Widths of a character in tenths of a pixel: monospace at 12 and 11 pixels, bold sans-serif at 11 and 16.
+/// Widths of a character in tenths of a pixel: monospace at 12 and 11 pixels, bold sans-serif at 11, 12 and 16.
 const MONO: i32 = 73;
 const NOTE: i32 = 67;
 const ROLE: i32 = 72;
+const FAULT: i32 = 70;
 const HEADING: i32 = 92;
+/// From a line of the heading to the next.
+const HEADING_LINE: i32 = 20;
 /// Data of more bytes than this is cut; the box's title has all of it.
 const BYTES_SHOWN: usize = 8;
 /// How long a line of a box may get, in characters, before it is broken.
@@ -71,6 +81,8 @@ fn pixels(characters: usize, width: i32) -> i32 {
 enum Kind {
     Row,
     Pair,
+    /// Happens-before, where neither a row nor a pair says it.
+    Before,
 }
 
 struct Line {
@@ -91,9 +103,7 @@ struct Words {
 
 struct Picture<'a> {
     table: &'a Table,
-    answer: &'a Answer,
-    /// Events from top to bottom.
-    order: Vec<usize>,
+    said: &'a Said,
     /// The agents that have a column; 0 for the inits.
     agents: Vec<u8>,
     /// By event.
@@ -101,49 +111,25 @@ struct Picture<'a> {
     roles: Vec<Option<&'static str>>,
     /// Between events.
     lines: Vec<Line>,
+    /// Where the boxes begin.
+    top: i32,
     layout: Layout,
 }
 
-/// The events that an answer names, with the words that stand in their boxes.
-fn named(answer: &Answer) -> Vec<(u8, &'static str)> {
-    let word = |role| match role {
-        "event" => "named",
-        "other" => "writer",
-        role => role,
-    };
-    sentence::named(answer).into_iter().map(|(role, event)| (event, word(role))).collect()
-}
-
-/// The writers and the reader of the rows that an answer names.
-fn named_lines(answer: &Answer) -> Vec<(u8, u8)> {
-    match *answer {
-        Answer::Broken { rule: Rule::Torn { reader, writer, other } } => vec![(writer, reader), (other, reader)],
-        Answer::Broken { rule } => match rule.names() {
-            [Some(reader), Some(writer), ..] => vec![(writer, reader)],
-            _ => vec![],
-        },
-        _ => vec![],
-    }
-}
-
-/// The reported order; the sheet's where there is none.
-fn order(table: &Table, answer: &Answer) -> Vec<usize> {
-    let count = table.events.len();
-    match answer {
-        Answer::Consistent { order, .. } if order.len() == count && order.iter().all(|&e| usize::from(e) < count) => {
-            order.iter().map(|&e| e.into()).collect()
-        }
-        _ => (0..count).collect(),
-    }
-}
-
 /// A line for each writer and reader, one for each pair. A row or pair whose events are not there has none.
-fn lines(table: &Table, answer: &Answer) -> Vec<Line> {
-    let red = named_lines(answer);
+fn lines(table: &Table, said: &Said) -> Vec<Line> {
     let rows: BTreeSet<(u8, u8)> = table.rows.iter().map(|row| (row.writer, row.reader)).collect();
-    let rows = rows.into_iter().map(|ends| (ends, Kind::Row, red.contains(&ends)));
+    let rows = rows.into_iter().map(|ends| (ends, Kind::Row, said.rows.contains(&ends)));
     let pairs = table.pairs.iter().map(|pair| ((pair.first, pair.second), Kind::Pair, false));
-    rows.chain(pairs)
+    let mut lines: Vec<((u8, u8), Kind, bool)> = rows.chain(pairs).collect();
+    if let Some(before) = said.before {
+        match lines.iter_mut().find(|(ends, ..)| *ends == before) {
+            Some((.., named)) => *named = true,
+            None => lines.push((before, Kind::Before, true)),
+        }
+    }
+    let lines = lines.into_iter();
+    lines
         .map(|((from, to), kind, named)| Line { from: from.into(), to: to.into(), kind, named })
         .filter(|line| line.from != line.to && line.from.max(line.to) < table.events.len())
         .collect()
@@ -239,26 +225,31 @@ fn runs(addresses: &[u8]) -> String {
 }
 
 impl<'a> Picture<'a> {
-    fn of(table: &'a Table, answer: &'a Answer) -> Picture<'a> {
-        let order = order(table, answer);
+    fn of(table: &'a Table, said: &'a Said) -> Picture<'a> {
+        let order = &said.order;
         let agents: BTreeSet<u8> = table.events.iter().map(|event| event.agent).collect();
         let agents: Vec<u8> = agents.into_iter().collect();
         let words: Vec<Words> = (0..order.len()).map(|e| Words::of(table, e)).collect();
         let mut roles = vec![None; order.len()];
-        for (event, role) in named(answer) {
+        for &(event, role) in &said.roles {
             if let Some(place) = roles.get_mut(usize::from(event)) {
                 *place = Some(role);
             }
         }
-        let lines = lines(table, answer);
-        let wanted = wanted(table, &order, &agents, &words, &roles, &lines);
-        let layout = Layout::of(&wanted, TOP, BOTTOM);
-        Picture { table, answer, order, agents, words, roles, lines, layout }
+        let lines = lines(table, said);
+        let wanted = wanted(table, order, &agents, &words, &roles, &lines);
+        let more = usize::from(!said.list.is_empty()) + usize::from(said.fault.is_some());
+        let top = TOP + HEADING_LINE * more as i32;
+        let layout = Layout::of(&wanted, top, BOTTOM);
+        Picture { table, said, agents, words, roles, lines, top, layout }
     }
 
     fn svg(&self, name: &str, id: &str) -> String {
-        let line = self.answer.to_string();
-        let width = self.layout.width.max(40 + pixels(line.len(), HEADING)).max(480);
+        let line = &self.said.line;
+        let list = self.said.list.iter().map(|(piece, _)| piece.chars().count() + 1).sum();
+        let fault = self.said.fault.as_ref().map_or(0, |fault| fault.chars().count());
+        let texts = pixels(line.len(), HEADING).max(70 + pixels(list, MONO)).max(pixels(fault, FAULT));
+        let width = self.layout.width.max(40 + texts).max(480);
         let height = self.layout.height;
         let mut s = String::with_capacity(8192);
         put!(
@@ -272,7 +263,7 @@ impl<'a> Picture<'a> {
         put!(s, "<title id='{id}-title'>{}: {line}</title>\n", escaped(name));
         put!(s, "<desc id='{id}-desc'>{}</desc>\n", escaped(&self.description()));
         put!(s, "<rect width='{width}' height='{height}' fill='#fff'/>\n");
-        self.heading(&mut s, name, &line, width);
+        self.heading(&mut s, name, width);
         self.columns(&mut s);
         self.all_lines(&mut s);
         self.boxes(&mut s);
@@ -281,20 +272,17 @@ impl<'a> Picture<'a> {
         s
     }
 
-    fn reported(&self) -> &'static str {
-        if self.answer.is_consistent() {
-            "Events from top to bottom in the reported order."
-        } else {
-            "Events from top to bottom as the sheet has them."
-        }
-    }
-
     /// All that the picture shows, in sentences.
     fn description(&self) -> String {
         let agents = self.agents.iter().filter(|&&agent| agent > 0).count();
         let agents = if agents == 1 { "1 agent".to_string() } else { format!("{agents} agents") };
-        let mut text = format!("{} {agents}, {} events. {}", self.answer.explain(), self.order.len(), self.reported());
-        for &e in &self.order {
+        let Said { sentences, order, downwards, .. } = self.said;
+        let mut text = format!("{sentences} {agents}, {} events. {downwards}", order.len());
+        if !self.said.list.is_empty() {
+            let list: Vec<&str> = self.said.list.iter().map(|(piece, _)| piece.as_str()).collect();
+            put!(text, " The list: {}.", list.join(" "));
+        }
+        for &e in order {
             put!(text, " Event {e}: {}", self.table.events[e]);
             self.words[e].sources.iter().for_each(|source| put!(text, "; {source}"));
             self.roles[e].iter().for_each(|role| put!(text, "; {role}"));
@@ -306,34 +294,48 @@ impl<'a> Picture<'a> {
         text
     }
 
-    fn heading(&self, s: &mut String, name: &str, line: &str, width: i32) {
+    fn heading(&self, s: &mut String, name: &str, width: i32) {
         let room = ((width - 40) / 8).max(20) as usize;
+        let Said { line, downwards, list, fault, .. } = self.said;
         put!(s, "<text x='20' y='24' fill='#555'>{}</text>\n", escaped(&clipped(name, room)));
         put!(s, "<text x='20' y='46' fill='#111' font-size='16' font-weight='bold'>{line}</text>\n");
-        put!(s, "<text x='20' y='66' fill='#555'>{}</text>\n", self.reported());
+        put!(s, "<text x='20' y='66' fill='#555'>{downwards}</text>\n");
+        let mut y = 66;
+        if !list.is_empty() {
+            y += HEADING_LINE;
+            put!(s, "<text x='20' y='{y}' fill='#555'>The list: <tspan {MONOSPACE} fill='#111'>");
+            for (i, (piece, wrong)) in list.iter().enumerate() {
+                let colour = if *wrong { " fill='#c00' font-weight='bold'" } else { "" };
+                put!(s, "{}<tspan{colour}>{}</tspan>", if i > 0 { " " } else { "" }, escaped(piece));
+            }
+            s.push_str("</tspan></text>\n");
+        }
+        if let Some(fault) = fault {
+            y += HEADING_LINE;
+            put!(s, "<text x='20' y='{y}' fill='#c00' font-weight='bold'>{}</text>\n", escaped(fault));
+        }
     }
 
     fn columns(&self, s: &mut String) {
-        let (top, height) = (TOP - 24, self.layout.height - BOTTOM - TOP + 30);
+        let (top, height) = (self.top - 24, self.layout.height - BOTTOM - self.top + 30);
         for (&agent, &(x, width)) in self.agents.iter().zip(&self.layout.columns) {
             let name = if agent == 0 { "inits".to_string() } else { format!("agent {agent}") };
             let (left, wide) = (x - 7, width + 14);
             put!(s, "<rect x='{left}' y='{top}' width='{wide}' height='{height}' rx='8' fill='#f0f2f5'/>");
-            put!(s, "<text x='{x}' y='{}' fill='#444' font-weight='bold'>{name}</text>\n", TOP - 8);
+            put!(s, "<text x='{x}' y='{}' fill='#444' font-weight='bold'>{name}</text>\n", self.top - 8);
         }
     }
 
     fn all_lines(&self, s: &mut String) {
-        for (kind, named, stroke) in [(Kind::Row, false, ROW), (Kind::Pair, false, PAIR), (Kind::Row, true, NAMED)] {
-            let lines = self.lines.iter().zip(&self.layout.lines);
-            let lines = lines.filter(|(line, _)| line.kind == kind && line.named == named);
+        for stroke in [ROW, PAIR, NAMED] {
+            let lines = self.lines.iter().zip(&self.layout.lines).filter(|(line, _)| line.stroke() == stroke);
             stroke.put(s, &lines.map(|(_, points)| *points).collect::<Vec<_>>());
         }
     }
 
     fn boxes(&self, s: &mut String) {
-        s.push_str("<g font-family='ui-monospace, \"DejaVu Sans Mono\", Menlo, Consolas, monospace'>\n");
-        for (&e, place) in self.order.iter().zip(&self.layout.boxes) {
+        put!(s, "<g {MONOSPACE}>\n");
+        for (&e, place) in self.said.order.iter().zip(&self.layout.boxes) {
             self.one_box(s, e, place);
         }
         s.push_str("</g>\n");
@@ -382,6 +384,9 @@ impl<'a> Picture<'a> {
         if has(Kind::Pair) {
             entry(arrow(PAIR), "pair");
         }
+        if has(Kind::Before) {
+            entry(arrow(NAMED), "happens before");
+        }
         if self.roles.iter().any(|role| role.is_some()) {
             let sign = format!("<rect x='2' y='-11' width='26' height='13' rx='3' fill='#fff' {NAMED_EDGE}/>");
             entry(sign, "named by the answer");
@@ -389,6 +394,7 @@ impl<'a> Picture<'a> {
     }
 }
 
+#[derive(PartialEq, Eq)]
 struct Stroke {
     colour: &'static str,
     width: &'static str,
@@ -398,7 +404,18 @@ struct Stroke {
 const ROW: Stroke = Stroke { colour: "#555", width: "1.3", dashes: "" };
 const PAIR: Stroke = Stroke { colour: "#1d4fd7", width: "1.5", dashes: " stroke-dasharray='6 4'" };
 const NAMED: Stroke = Stroke { colour: "#c00", width: "2.8", dashes: "" };
+const MONOSPACE: &str = "font-family='ui-monospace, \"DejaVu Sans Mono\", Menlo, Consolas, monospace'";
 const NAMED_EDGE: &str = "stroke='#c00' stroke-width='3'";
+
+impl Line {
+    fn stroke(&self) -> Stroke {
+        match self.kind {
+            _ if self.named => NAMED,
+            Kind::Pair => PAIR,
+            Kind::Row | Kind::Before => ROW,
+        }
+    }
+}
 
 impl Stroke {
     /// The lines, and then their arrowheads, which have no dashes.
@@ -500,8 +517,13 @@ pub mod tests {
     }
 
     fn check_picture(table: &Table, answer: &Answer, name: &str) {
-        let picture = Picture::of(table, answer);
-        let wanted = wanted(table, &picture.order, &picture.agents, &picture.words, &picture.roles, &picture.lines);
+        check_told(table, &Said::of_sheet(answer, table.events.len()), name);
+    }
+
+    /// What every picture must be like.
+    pub fn check_told(table: &Table, said: &Said, name: &str) {
+        let picture = Picture::of(table, said);
+        let wanted = wanted(table, &said.order, &picture.agents, &picture.words, &picture.roles, &picture.lines);
         check(&picture.layout, &wanted);
         let svg = picture.svg(name, "p7");
         well_formed(&svg);
@@ -511,10 +533,13 @@ pub mod tests {
         }
         assert_eq!(
             svg.matches(&format!("{NAMED_EDGE}/><text")).count(),
-            named(answer).len() + usize::from(!named(answer).is_empty())
+            said.roles.len() + usize::from(!said.roles.is_empty())
         );
+        assert_eq!(svg.matches(" fill='#c00' font-weight='bold'>").count(), {
+            said.list.iter().filter(|(_, wrong)| *wrong).count() + usize::from(said.fault.is_some())
+        });
         assert_eq!(svg.matches(" id='").count(), svg.matches(" id='p7-").count());
-        assert_eq!(svg, super::picture(table, answer, name, "p7"));
+        assert_eq!(svg, told(table, said, name, "p7"));
     }
 
     #[test]

@@ -1,7 +1,8 @@
 //! An answer as one line of JSON.
 
+use crate::check::Outcome;
 use crate::sentence::{besides, named};
-use plimdrong::{Answer, Rule, Table};
+use plimdrong::{Answer, ListFault, Rule, Table};
 
 /// A JSON string. What is no UTF-8 stands in it as U+FFFD.
 pub fn string(bytes: &[u8]) -> String {
@@ -21,39 +22,80 @@ fn numbers(list: &[u8]) -> String {
     format!("[{}]", list.iter().map(|e| e.to_string()).collect::<Vec<_>>().join(","))
 }
 
+/// Events by number, with their text.
+struct Events(Option<Table>);
+
+impl Events {
+    fn of(sheet: &[u8]) -> Events {
+        Events(Table::of(sheet).ok())
+    }
+
+    fn event(&self, e: u8) -> String {
+        let text =
+            self.0.as_ref().and_then(|t| t.events.get(usize::from(e))).map(|e| e.to_string()).unwrap_or_default();
+        format!("{{\"event\":{e},\"is\":{}}}", string(text.as_bytes()))
+    }
+
+    /// An object of events by the parts that they have, and the address where there is one.
+    fn names(&self, named: Vec<(&str, u8)>, address: Option<u8>) -> String {
+        let events = named.into_iter().map(|(role, e)| format!("\"{}\":{}", role.replace(' ', "_"), self.event(e)));
+        let all: Vec<String> = events.chain(address.map(|address| format!("\"address\":{address}"))).collect();
+        format!("\"names\":{{{}}}", all.join(","))
+    }
+}
+
 /// The object of an answer, without a newline: what it is called (`"name":..` or `"index":..`), the report line and its parts,
 /// the sentences.
 pub fn line(called: &str, sheet: &[u8], answer: &Answer) -> String {
-    let table = Table::of(sheet).ok();
-    let event = |e: u8| {
-        let text = table.as_ref().and_then(|t| t.events.get(usize::from(e))).map(|e| e.to_string()).unwrap_or_default();
-        format!("{{\"event\":{e},\"is\":{}}}", string(text.as_bytes()))
-    };
-    let parts = match answer {
+    let told = string(format!("{}{}", answer.explain(), besides(sheet, answer)).as_bytes());
+    format!("{{{called},\"line\":\"{answer}\",{},\"sentence\":{told}}}", parts(&Events::of(sheet), answer))
+}
+
+fn parts(events: &Events, answer: &Answer) -> String {
+    match answer {
         Answer::Refused { number, place } => format!("\"answer\":\"refused\",\"number\":{number},\"place\":{place}"),
         Answer::Broken { rule } => {
-            let mut names: Vec<String> =
-                named(answer).iter().map(|(role, e)| format!("\"{role}\":{}", event(*e))).collect();
-            if let Rule::ByteDiffers { address, .. }
-            | Rule::ReadsLater { address, .. }
-            | Rule::Overwritten { address, .. } = rule
-            {
-                names.push(format!("\"address\":{address}"));
-            }
-            format!("\"answer\":\"broken\",\"number\":{},\"names\":{{{}}}", rule.number(), names.join(","))
+            let address = match *rule {
+                Rule::ByteDiffers { address, .. }
+                | Rule::ReadsLater { address, .. }
+                | Rule::Overwritten { address, .. } => Some(address),
+                _ => None,
+            };
+            let names = events.names(named(answer), address);
+            format!("\"answer\":\"broken\",\"number\":{},{names}", rule.number())
         }
         Answer::Consistent { order, pair: None } => {
             format!("\"answer\":\"consistent\",\"number\":0,\"orderly\":true,\"order\":{}", numbers(order))
         }
         Answer::Consistent { order, pair: Some((first, second)) } => format!(
             "\"answer\":\"consistent\",\"number\":1,\"orderly\":false,\"unsettled\":[{},{}],\"order\":{}",
-            event(*first),
-            event(*second),
+            events.event(*first),
+            events.event(*second),
             numbers(order)
         ),
+    }
+}
+
+/// The same of what was said of a list.
+pub fn of_list(called: &str, outcome: &Outcome) -> String {
+    let events = Events::of(outcome.sheet);
+    let parts = match (outcome.checked.of_the_sheet(), outcome.fault()) {
+        (Some(answer), _) => parts(&events, &answer),
+        (_, None) => "\"answer\":\"accepted\",\"number\":0".to_string(),
+        (_, Some(fault)) => {
+            let more = match fault {
+                ListFault::WrongLength { length } => format!("\"length\":{length}"),
+                ListFault::BadNumber { index } => {
+                    format!("\"index\":{index},\"listed\":{}", outcome.list.typed(index as usize))
+                }
+                ListFault::TooEarly { index } => format!("\"index\":{index},{}", events.names(outcome.named(), None)),
+                ListFault::Barred { address, .. } => events.names(outcome.named(), Some(address)),
+            };
+            format!("\"answer\":\"not accepted\",\"number\":{},{more}", fault.number())
+        }
     };
-    let told = string(format!("{}{}", answer.explain(), besides(sheet, answer)).as_bytes());
-    format!("{{{called},\"line\":\"{answer}\",{parts},\"sentence\":{told}}}")
+    let told = string(outcome.sentence().as_bytes());
+    format!("{{{called},\"line\":\"{}\",{parts},\"sentence\":{told}}}", outcome.checked)
 }
 
 #[cfg(test)]

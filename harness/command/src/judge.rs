@@ -9,7 +9,22 @@ use std::os::unix::ffi::OsStrExt;
 
 pub const ENTRY: Entry = Entry { command, run };
 
+/// How the answers are told, and where they come from: what `judge` and `check` have in common.
+pub fn arguments(batch: &'static str) -> [Arg; 3] {
+    let flag = |name: &'static str| Arg::new(name).long(name).action(ArgAction::SetTrue);
+    [
+        flag("explain").help("Sentences below each line: what it means, what to do, which events it names"),
+        flag("json")
+            .conflicts_with("explain")
+            .help("A line of JSON each, in place of the line: the answer, its parts, its sentences"),
+        flag("batch").help(batch),
+    ]
+}
+
 fn command() -> Command {
+    let [explain, json, batch] = arguments(
+        "Many sheets on standard input, each behind its length in two bytes, the most significant first; a line each, in order",
+    );
     Command::new("judge")
         .about("Judges sheets: a line each, as ./verdict prints it")
         .arg(
@@ -19,23 +34,9 @@ fn command() -> Command {
                 .value_parser(value_parser!(OsString))
                 .help("A sheet; - is standard input, and so is no FILE at all. With several the name stands before the line"),
         )
-        .arg(Arg::new("explain").long("explain").action(ArgAction::SetTrue).help(
-            "Sentences below each line: what it means, what to do, which events it names",
-        ))
-        .arg(
-            Arg::new("json")
-                .long("json")
-                .action(ArgAction::SetTrue)
-                .conflicts_with("explain")
-                .help("A line of JSON each, in place of the line: answer, number, place or names, order"),
-        )
-        .arg(
-            Arg::new("batch")
-                .long("batch")
-                .action(ArgAction::SetTrue)
-                .conflicts_with("file")
-                .help("Many sheets on standard input, each behind its length in two bytes, the most significant first; a line each, in order"),
-        )
+        .arg(explain)
+        .arg(json)
+        .arg(batch.conflicts_with("file"))
         .after_help(
             "Examples:\n  ./plimdrong judge examples/first.sheet\n  ./plimdrong judge --explain examples/litmus/12-torn.sheet\n  \
              ./plimdrong judge --json - <examples/first.sheet\n  \
@@ -53,8 +54,16 @@ pub enum Form {
 }
 
 impl Form {
+    pub fn of(matches: &ArgMatches) -> Form {
+        match (matches.get_flag("explain"), matches.get_flag("json")) {
+            (true, _) => Form::Explain,
+            (_, true) => Form::Json,
+            _ => Form::Line,
+        }
+    }
+
     /// What is printed of an answer: `called` is the JSON member that names the sheet, `before` what stands before the line.
-    pub fn told(self, called: &str, before: &[u8], sheet: &[u8], answer: &Answer) -> Vec<u8> {
+    fn told(self, called: &str, before: &[u8], sheet: &[u8], answer: &Answer) -> Vec<u8> {
         let mut told = Vec::new();
         match self {
             Form::Json => told.extend(json::line(called, sheet, answer).bytes()),
@@ -72,13 +81,13 @@ impl Form {
 }
 
 fn run(matches: &ArgMatches) -> u8 {
-    let form = match (matches.get_flag("explain"), matches.get_flag("json")) {
-        (true, _) => Form::Explain,
-        (_, true) => Form::Json,
-        _ => Form::Line,
-    };
+    let form = Form::of(matches);
     if matches.get_flag("batch") {
-        return batch::run(form);
+        let mut judge = Judge::new();
+        return batch::run(["sheet"], |n, [sheet], out| match judge.judge(sheet) {
+            answer if form == Form::Line => writeln!(out, "{answer}"),
+            answer => out.write_all(&form.told(&format!("\"index\":{n}"), b"", sheet, &answer)),
+        });
     }
     let dash = OsString::from("-");
     let mut files: Vec<&OsString> = matches.get_many("file").map(Iterator::collect).unwrap_or_default();
@@ -90,7 +99,7 @@ fn run(matches: &ArgMatches) -> u8 {
     let mut out = io::stdout().lock();
     for file in files {
         let shown = if *file == dash { "standard input".to_string() } else { names::shown(file.as_bytes()) };
-        if let Err(why) = fetched(file, &mut sheet) {
+        if let Err(why) = fetched(file, &mut sheet, "plimdrong judge FILE") {
             complain(format!("{shown}: {why}"));
             status = FAILED;
             continue;
@@ -107,12 +116,13 @@ fn run(matches: &ArgMatches) -> u8 {
     status
 }
 
-fn fetched(file: &OsString, sheet: &mut Vec<u8>) -> Result<(), &'static str> {
+/// A sheet by its name, - for standard input. `call` is how the command is called.
+pub fn fetched(file: &OsString, sheet: &mut Vec<u8>, call: &str) -> Result<(), String> {
     if file != "-" {
-        return fetch::named(file.as_ref(), sheet).map_err(fetch::remedy);
+        return fetch::named(file.as_ref(), sheet).map_err(|why| fetch::remedy(why).to_string());
     }
     if io::stdin().is_terminal() {
-        complain("reading a sheet from the terminal; to judge a file: plimdrong judge FILE");
+        complain(format!("reading a sheet from the terminal; to give a file: {call}"));
     }
-    fetch::front(&mut io::stdin().lock(), sheet).map_err(|_| "reading it failed: give a sheet, as plimdrong judge FILE")
+    fetch::front(&mut io::stdin().lock(), sheet).map_err(|_| format!("reading it failed: give a sheet, as {call}"))
 }

@@ -3,16 +3,19 @@
 
 mod audit;
 mod batch;
+mod check;
 mod counts;
 mod draw;
 mod fetch;
 mod json;
 mod judge;
 mod layout;
+mod list;
 mod names;
 mod read;
 mod record;
 mod report;
+mod said;
 mod scratch;
 mod sentence;
 mod write;
@@ -28,11 +31,11 @@ pub struct Entry {
 }
 
 /// A request of 02 that lands adds its module here.
-const ENTRIES: [Entry; 5] = [judge::ENTRY, write::ENTRY, read::ENTRY, draw::ENTRY, audit::ENTRY];
+const ENTRIES: [Entry; 6] = [judge::ENTRY, check::ENTRY, write::ENTRY, read::ENTRY, draw::ENTRY, audit::ENTRY];
 
-/// Every sheet got its line, the text its sheet, every record is consistent.
+/// Every sheet got its line, the text its sheet, every record is consistent, the list is accepted.
 pub const DONE: u8 = 0;
-/// A text or a sheet was refused; a record is not consistent.
+/// A text or a sheet was refused; a record is not consistent; a list is not accepted.
 pub const FOUND: u8 = 1;
 /// Something could not be read or written, or the arguments are wrong.
 pub const FAILED: u8 = 2;
@@ -50,7 +53,7 @@ fn command() -> Command {
         .subcommand_required(true)
         .arg_required_else_help(true)
         .after_help(
-            "Examples:\n  ./plimdrong judge examples/first.sheet\n  ./plimdrong audit examples/litmus --ending .sheet --html target/report.html\n\n\
+            "Examples:\n  ./plimdrong judge examples/first.sheet\n  ./plimdrong check examples/first.sheet 0 1\n  ./plimdrong audit examples/litmus --ending .sheet --html target/report.html\n\n\
              What a sheet is: docs/SHEET.md. What the answers mean: README.md. Each subcommand has its own --help.",
         )
         .subcommands(ENTRIES.iter().map(|entry| (entry.command)()))

@@ -1,14 +1,24 @@
 //! Answers in sentences, with the events that they name; kinds of answer in words.
 
+use crate::check::Outcome;
 use crate::record::Class;
 use plimdrong::{refusal, Answer, Rule, Table};
 use std::fmt;
 
 /// The sentences of an answer, and a line for each event that it names.
 pub fn sentences(sheet: &[u8], answer: &Answer) -> String {
-    let mut text = format!("{}{}\n", answer.explain(), besides(sheet, answer));
+    with_events(sheet, answer.explain() + besides(sheet, answer), named(answer))
+}
+
+/// The same of what was said of a list.
+pub fn of_list(outcome: &Outcome) -> String {
+    with_events(outcome.sheet, outcome.sentence(), outcome.named())
+}
+
+fn with_events(sheet: &[u8], mut text: String, named: Vec<(&str, u8)>) -> String {
+    text.push('\n');
     let table = Table::of(sheet).ok();
-    for (role, event) in named(answer) {
+    for (role, event) in named {
         if let Some(e) = table.as_ref().and_then(|t| t.events.get(usize::from(event))) {
             text += &format!("  {event} ({role}): {e}\n");
         }

@@ -39,7 +39,7 @@ pub fn one_to_one(name: &'static str, input: &'static str, output: &'static str)
 pub fn carry(matches: &ArgMatches, binary: bool, make: impl Fn(&str, &[u8]) -> Made) -> u8 {
     let of = |name| matches.get_one::<OsString>(name).expect("it has a default");
     let (file, output) = (of("file"), of("output"));
-    match all(file).and_then(|bytes| make(&called(file), &bytes)).and_then(|made| put(output, binary, &made)) {
+    match all(file, OVER).and_then(|bytes| make(&called(file), &bytes)).and_then(|made| put(output, binary, &made)) {
         Ok(()) => DONE,
         // what is wrong with a text begins with its file and line, so that an editor finds it
         Err((FOUND, why)) => {
@@ -53,7 +53,7 @@ pub fn carry(matches: &ArgMatches, binary: bool, make: impl Fn(&str, &[u8]) -> M
     }
 }
 
-fn called(file: &OsStr) -> String {
+pub fn called(file: &OsStr) -> String {
     if file == "-" {
         "standard input".to_string()
     } else {
@@ -61,10 +61,12 @@ fn called(file: &OsStr) -> String {
     }
 }
 
-/// More than a sheet or the text of a table has.
+/// More than a sheet, the text of a table or a list of events has.
 const MOST: usize = 1 << 20;
+const OVER: &str = "this is no sheet, and no table that has one";
 
-fn all(file: &OsStr) -> Made {
+/// A file whole, - for standard input. `over` says what a longer one than there can be is not.
+pub fn all(file: &OsStr, over: &str) -> Made {
     let mut bytes = Vec::new();
     let mut front = |from: &mut dyn Read| from.take(MOST as u64 + 1).read_to_end(&mut bytes);
     let read = match file == "-" {
@@ -74,9 +76,7 @@ fn all(file: &OsStr) -> Made {
     match read {
         Err(e) => Err((FAILED, format!("{}: {}", called(file), failure(&e)))),
         // a text that is cut would be another text
-        Ok(n) if n > MOST => {
-            Err((FOUND, format!("{}: over {MOST} bytes: this is no sheet, and no table that has one", called(file))))
-        }
+        Ok(n) if n > MOST => Err((FOUND, format!("{}: over {MOST} bytes: {over}", called(file)))),
         Ok(_) => Ok(bytes),
     }
 }
@@ -94,7 +94,8 @@ pub fn failure(e: &io::Error) -> String {
     }
 }
 
-fn put(output: &OsStr, binary: bool, made: &[u8]) -> Result<(), (u8, String)> {
+/// Bytes to a file, - for standard output.
+pub fn put(output: &OsStr, binary: bool, made: &[u8]) -> Result<(), (u8, String)> {
     if output != "-" {
         return std::fs::write(output, made)
             .map_err(|e| (FAILED, format!("{}: {}", crate::names::shown(output.as_encoded_bytes()), failure(&e))));

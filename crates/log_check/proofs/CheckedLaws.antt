@@ -21,12 +21,10 @@ use Rattle.sets.specs.Mask.{slots, mem}
 use Rattle.answer.specs.declared.Names.{Names}
 use Rattle.answer.specs.declared.Rule.{Rule}
 use Rattle.answer.specs.declared.Rule.the-variants.{Kept, Breach}
-use Rattle.tables.specs.Tables.{columns, rowRoom, rowCells, rowIn, pairRoom, pairCells}
+use Rattle.tables.specs.Tables.{columns, rowRoom, rowCells, rowIn}
 use Rattle.alike.specs.Ranges.{equalsIn}
 use Rattle.bars.specs.Bars.{maskIn}
-use Rattle.lay.specs.Lay.{Layered}
-use Rattle.before.specs.Before.{ClosedSteps}
-use Rattle.rules.specs.Rules.{ruleIn}
+use Rattle.prepare.specs.Prepared.{Prepared}
 use Rattle.model.specs.Rules.{faulty, fault}
 use Rattle.model.specs.Bar.{rowBars}
 use Rattle.model.proofs.Sound.{Sound, sound}
@@ -44,10 +42,8 @@ use Rattle.log_check.specs.Checked.{trial, CheckedRefused, CheckedBroken
 pub checked-refused : {s : List ℕ} {n p : ℕ} → parse s ≡ refused n p → CheckedRefused s n p
 checked-refused e = record { says = e }
 
-module _ {s : List ℕ} {x : Counts} {at : List ℕ} (h : HandedWhole s x at) {t q p : List ℕ}
-    (ly : Layered s x at (replicate columns 0) t (replicate rowCells 0) q (replicate pairCells 0) p) {succ pred : List ℕ}
-    (o : ClosedSteps t (min (x .events) slots) q (min (x .rows) rowRoom) p (min (x .pairs) pairRoom) (replicate slots 0) succ (replicate slots 0) pred)
-    {rule : Rule} (r : rule ≡ ruleIn t (min (x .events) slots) succ pred q (min (x .rows) rowRoom)) where
+module _ {s : List ℕ} {x : Counts} {at : List ℕ} (h : HandedWhole s x at) {t q succ pred : List ℕ} {rule : Rule}
+    (w : Prepared s x at (replicate columns 0) t (replicate rowCells 0) q (replicate slots 0) succ (replicate slots 0) pred rule) where
   abbrev X : Execution
   X = execution s x at
 
@@ -55,10 +51,10 @@ module _ {s : List ℕ} {x : Counts} {at : List ℕ} (h : HandedWhole s x at) {t
   well = promise s X (h .says)
 
   held : Held X (x .events) (x .rows) t q succ pred
-  held = sheet-held (h .laid) well ly o
+  held = sheet-held (h .laid) well (w .laid) (w .ordered)
 
   found : foundOf rule ≡ fault X (hbOf succ)
-  found = ap foundOf r ∙ sheet-rules (h .laid) well ly o
+  found = ap foundOf (w .says) ∙ sheet-rules (h .laid) well (w .laid) (w .ordered)
 
   pub checked-broken : {n : ℕ} {names : Names} → rule ≡ Breach n names → CheckedBroken s (faulty n names)
   checked-broken k =
@@ -73,7 +69,7 @@ module _ {s : List ℕ} {x : Counts} {at : List ℕ} (h : HandedWhole s x at) {t
       let b : min (x .rows) rowRoom ≡ x .rows = omega arith in
       ap₂ (λ (n m : ℕ). listFault (trialIn n t succ pred q m) l) a b
       ∙ fault-same (trialIn (x .events) t succ pred q (x .rows)) (hbOf succ) (rowBars X (hbOf succ)) (λ e d. held .turned e d)
-      (λ w v i k. held-row held (sound X well) w (subst (λ (z : List Row). List·Memᴰ w z) (sym (held .rowed)) i) v (omega arith)) l
+      (λ d v i k. held-row held (sound X well) d (subst (λ (z : List Row). List·Memᴰ d z) (sym (held .rowed)) i) v (omega arith)) l
       ∙ ap₂ (λ (n : ℕ) (z : List Row). listFault (record { events = n; before = hbOf succ; rows = z; bars = rowBars X (hbOf succ) }) l) (sym (held .tabled .count)) (sym (held .rowed))
 
   pub checked-list : rule ≡ Kept → (l : List ℕ) {said : Said} → said ≡ saidOf (listFault (trialIn (min (x .events) slots) t succ pred q (min (x .rows) rowRoom)) l)

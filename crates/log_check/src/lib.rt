@@ -9,7 +9,6 @@ use log_order::Said;
 use sets::SLOTS;
 use sheet::Reading;
 use tables::COLUMNS;
-use tables::PAIR_CELLS;
 use tables::ROW_CELLS;
 ghost use mathlib.Core.Path.{_≡_};
 ghost use Rattle.sheet.specs.Handed.{HandedWhole};
@@ -32,15 +31,11 @@ fn weigh(s: &[u8], x: Counts, at: &[u16], list: &[u8]) -> Reply
 {
     let events = x.events as usize;
     let rows = x.rows as usize;
-    let pairs = x.pairs as usize;
     let mut t = [0u8; COLUMNS];
     let mut q = [0u8; ROW_CELLS];
-    let mut p = [0u8; PAIR_CELLS];
-    lay::fill(s, x, at, &mut t, &mut q, &mut p);
     let mut succ = [0u32; SLOTS];
     let mut pred = [0u32; SLOTS];
-    before::fill(&t, events, &q, rows, &p, pairs, &mut succ, &mut pred);
-    let rule = rules::first_broken(&t, events, &succ, &pred, &q, rows);
+    let rule = prepare::prepare(s, x, at, &mut t, &mut q, &mut succ, &mut pred);
     match rule {
         Rule::Breach(n, names) => Reply::Broken(n, names),
         Rule::Kept => { Reply::Listed(log_order::check(events, &t, &succ, &pred, &q, rows, list)) }

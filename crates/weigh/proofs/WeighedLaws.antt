@@ -13,18 +13,16 @@ use Rattle.answer.specs.declared.Answer.the-variants.{Broken}
 use Rattle.answer.specs.declared.Names.{Names}
 use Rattle.answer.specs.declared.Rule.{Rule}
 use Rattle.answer.specs.declared.Rule.the-variants.{Kept, Breach}
-use Rattle.tables.specs.Tables.{columns, rowRoom, rowCells, pairRoom, pairCells}
-use Rattle.lay.specs.Lay.{rowsPut, Layered}
-use Rattle.before.specs.Before.{ClosedSteps}
-use Rattle.before.proofs.BeforeLaws.{closed-steps-unique}
+use Rattle.tables.specs.Tables.{columns, rowRoom, rowCells, pairRoom}
+use Rattle.prepare.specs.Prepared.{Prepared}
+use Rattle.prepare.proofs.PreparedLaws.{prepared-unique}
 use Rattle.arrange.specs.Arranged.{Arranged}
 use Rattle.arrange.proofs.ArrangedLaws.{arranged-unique}
 use Rattle.weigh.specs.Weighed.{brokenIn, Decided, Weighed}
 
-module _ {s : List ℕ} {x : Counts} {at t q p : List ℕ} (l : Layered s x at (replicate columns 0) t (replicate rowCells 0) q (replicate pairCells 0) p)
-    {succ pred : List ℕ}
-    (o : ClosedSteps t (min (x .events) slots) q (min (x .rows) rowRoom) p (min (x .pairs) pairRoom) (replicate slots 0) succ (replicate slots 0) pred)
-    {rule : Rule} (e : rule ≡ brokenIn x t q succ pred) {need : ℕ} {scratch order : List ℕ} where
+module _ {s : List ℕ} {x : Counts} {at t q succ pred : List ℕ} {rule : Rule}
+    (w : Prepared s x at (replicate columns 0) t (replicate rowCells 0) q (replicate slots 0) succ (replicate slots 0) pred rule)
+    {need : ℕ} {scratch order : List ℕ} where
   -- what follows from the rule that was found
   weighed : {r : Answer} {scratch′ order′ : List ℕ} → Decided (x .inits) (x .events) (x .rows) t q succ pred need scratch order rule r scratch′ order′
       → Weighed s x at need scratch order r scratch′ order′
@@ -32,12 +30,12 @@ module _ {s : List ℕ} {x : Counts} {at t q p : List ℕ} (l : Layered s x at (
       record {
         t = t;
         q = q;
-        p = p;
-        laid = l;
+        p = w .p;
+        laid = w .laid;
         succ = succ;
         pred = pred;
-        ordered = o;
-        decided = subst (λ (i : Rule). Decided (x .inits) (x .events) (x .rows) t q succ pred need scratch order i r scratch′ order′) e d;
+        ordered = w .ordered;
+        decided = subst (λ (i : Rule). Decided (x .inits) (x .events) (x .rows) t q succ pred need scratch order i r scratch′ order′) (w .says) d;
       }
 
   pub weighed-broken : {n : ℕ} {names : Names} → rule ≡ Breach n names → {scratch′ : List ℕ} → scratch′ ≡ cleared need scratch
@@ -61,22 +59,14 @@ module _ (k n m : ℕ) (t q succ pred : List ℕ) (need : ℕ) (scratch order : 
 
 module _ {s : List ℕ} {x : Counts} {at : List ℕ} {need : ℕ} {scratch order : List ℕ} {r a : Answer} {c c′ o o′ : List ℕ}
     (w : Weighed s x at need scratch order r c o) (v : Weighed s x at need scratch order a c′ o′) where
-  t-same : v .t ≡ w .t
-  t-same = v .laid .events ∙ sym (w .laid .events)
-
-  q-same : v .q ≡ w .q
-  q-same = v .laid .rows ∙ ap (λ (l : List ℕ). rowsPut s x at l (min (x .rows) rowRoom) (replicate rowCells 0)) t-same ∙ sym (w .laid .rows)
-
-  p-same : v .p ≡ w .p
-  p-same = v .laid .pairs ∙ sym (w .laid .pairs)
-
-  masks-same : (v .succ ≡ w .succ) × (v .pred ≡ w .pred)
-  masks-same =
-      closed-steps-unique (w .t) (min (x .events) slots) (w .q) (min (x .rows) rowRoom) (w .p) (min (x .pairs) pairRoom) (replicate slots 0) (replicate slots 0)
-      (v .succ) (v .pred) (w .succ) (w .pred) (rw (t-same, q-same, p-same) at (v .ordered)) (w .ordered)
+  -- what was prepared is the same
+  prepared : {b : Answer} {d p : List ℕ} (u : Weighed s x at need scratch order b d p)
+      → Prepared s x at (replicate columns 0) (u .t) (replicate rowCells 0) (u .q) (replicate slots 0) (u .succ) (replicate slots 0) (u .pred) (brokenIn x (u .t) (u .q) (u .succ) (u .pred))
+  prepared u = record { p = u .p; laid = u .laid; ordered = u .ordered; says = refl }
 
   pub weighed-unique : (r ≡ a) × (c ≡ c′) × (o ≡ o′)
   weighed-unique =
+      let y = prepared-unique (prepared v) (prepared w) in
       decided-unique (x .inits) (x .events) (x .rows) (w .t) (w .q) (w .succ) (w .pred) need scratch order
       (brokenIn x (w .t) (w .q) (w .succ) (w .pred)) (w .decided)
-      (rw (t-same, q-same, masks-same .0, masks-same .1) at (v .decided))
+      (rw (y .accesses, y .rows, y .after, y .before) at (v .decided))

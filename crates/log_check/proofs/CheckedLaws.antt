@@ -1,38 +1,34 @@
 -- The laws of specs/Checked.antt. Assumes nothing.
 --     checked-refused, checked-broken, checked-list     how the code's replies are made: what the tables say is what the sheet's execution says
 --     checked-unique                                    two conforming replies are equal
-use mathlib.Core.Path.{_≡_, refl, sym, ap, ap₂, _∙_, subst}
-use mathlib.Core.Bool.{Bool}
+use mathlib.Core.Path.{_≡_, sym, ap, ap₂, _∙_, subst}
 use mathlib.Core.List.{List, List·Memᴰ}
-use mathlib.Core.Option.{none, some}
-use Prim.Native.Nat.{ℕ, _<_, _≤_, min}
+use mathlib.Core.Option.{some}
+use Prim.Native.Nat.{ℕ, min}
 use native.Mathlib.Omega.{arith}
-use lib.ListN.{length, getD, replicate}
-use Rattle.basis.specs.Test.{each, from}
+use lib.ListN.{replicate}
 use Rattle.format.specs.declared.Row.{Row}
 use Rattle.format.specs.Execution.{Execution}
 use Rattle.entries.specs.declared.Counts.{Counts}
 use Rattle.entries.specs.Entries.{execution}
-use Rattle.parse.specs.Parse.{refused, whole, parse}
+use Rattle.parse.specs.Parse.{refused, parse}
 use Rattle.parse.specs.Promise.{WellFormed}
 use Rattle.parse.proofs.PromiseLaws.{promise}
 use Rattle.sheet.specs.Handed.{HandedWhole}
-use Rattle.sets.specs.Mask.{slots, mem}
+use Rattle.sets.specs.Mask.{slots}
 use Rattle.answer.specs.declared.Names.{Names}
 use Rattle.answer.specs.declared.Rule.{Rule}
 use Rattle.answer.specs.declared.Rule.the-variants.{Kept, Breach}
-use Rattle.tables.specs.Tables.{columns, rowRoom, rowCells, rowIn}
-use Rattle.alike.specs.Ranges.{equalsIn}
-use Rattle.bars.specs.Bars.{maskIn}
+use Rattle.tables.specs.Tables.{columns, rowRoom, rowCells}
 use Rattle.prepare.specs.Prepared.{Prepared}
 use Rattle.model.specs.Rules.{faulty, fault}
 use Rattle.model.specs.Bar.{rowBars}
-use Rattle.model.proofs.Sound.{Sound, sound}
+use Rattle.model.proofs.Sound.{sound}
 use Rattle.model.proofs.JudgedLaws.{moved, same-whole, never-both}
 use Rattle.front.specs.Tabled.{hbOf, foundOf, Held}
 use Rattle.front.proofs.SheetLaws.{sheet-held, sheet-rules, held-row}
 use Rattle.log_order.specs.declared.Said.{Said}
-use Rattle.log_order.specs.Listed.{Trial, listFault, saidOf}
+use Rattle.log_order.specs.Listed.{listFault, saidOf}
 use Rattle.log_order.specs.Trial.{trialIn}
 use Rattle.log_order.proofs.TrialLaws.{fault-same}
 use Rattle.log_check.specs.declared.Reply.{Reply}

@@ -1,46 +1,39 @@
 -- Each claim of specs/Demands.antt. Assumes nothing.
-use mathlib.Core.Path.{_≡_, refl, sym, ap, ap₂, _∙_, subst}
+use mathlib.Core.Path.{_≡_, refl, sym, ap, _∙_, subst}
 use mathlib.Core.Logic.{_⊎_, _↔_, inl, inr, ⊎-elim}
 use mathlib.Core.Bool.{Bool}
-use mathlib.Core.List.{List, List·Memᴰ}
-use mathlib.Core.Option.{Option, none, some, Option·none-ne-some}
-use Prim.Native.Nat.{ℕ, _<_, _^_, _≤_}
+use mathlib.Core.List.{List}
+use mathlib.Core.Option.{Option, none, some}
+use Prim.Native.Nat.{ℕ}
 use native.Mathlib.Omega.{arith}
-use lib.Dec.{T}
-use lib.ListN.{length, getD, take, replicate, length-replicate}
-use Rattle.basis.specs.Test.{any, find}
-use Rattle.basis.proofs.FindLaws.{find-none, same-some}
-use Rattle.basis.proofs.ListLaws.{getD-mem}
+use lib.ListN.{length, take, replicate, length-replicate}
+use Rattle.basis.proofs.FindLaws.{find-none}
 use Rattle.format.specs.declared.Row.{Row}
 use Rattle.format.specs.Execution.{Execution}
-use Rattle.format.specs.Limits.{maxEvents, maxMemory}
 use Rattle.parse.specs.Parse.{Parsed, refused, whole, parse}
 use Rattle.parse.specs.Promise.{WellFormed}
 use Rattle.parse.specs.WellSheet.{WellSheet}
 use Rattle.parse.proofs.PromiseLaws.{promise}
 use Rattle.parse.proofs.WellSheetLaws.{exactly}
-use Rattle.orders.specs.Order.{In, Meets}
+use Rattle.orders.specs.Order.{Meets}
 use Rattle.orders.proofs.OrderLaws.{precedes-in}
 use Rattle.marks.specs.Table.{cleared}
 use Rattle.answer.specs.declared.Names.{Names}
-use Rattle.answer.specs.declared.Settled.the-variants.{Orderly as AllSettled}
-use Rattle.answer.specs.declared.Answer.{Answer}
 use Rattle.answer.specs.declared.Answer.the-variants.{Refused as JudgeRefused, Broken as JudgeBroken, Consistent}
 use Rattle.answer.specs.Fit.{Fits}
 use Rattle.model.specs.Happens.{Tests}
 use Rattle.model.specs.Rules.{Fault as RuleFault, faulty, breaks22, fault}
 use Rattle.model.specs.Bar.{bar}
 use Rattle.model.specs.Order.{problem}
-use Rattle.model.specs.Judged.{needed, lent, admitted, JudgedRefused, JudgedBroken, Breaks, Judged}
-use Rattle.model.specs.Demands.{IsConsistent}
+use Rattle.model.specs.Judged.{needed, lent, admitted, Breaks}
 use Rattle.model.proofs.Sound.{Sound, sound}
 use Rattle.model.proofs.EventsLaws.{number-mem}
-use Rattle.model.proofs.HappensLaws.{happens-inside, reader-inside, writer-inside}
+use Rattle.model.proofs.HappensLaws.{happens-inside}
 use Rattle.model.proofs.RulesLaws.{clean}
 use Rattle.model.proofs.Serial.{explains}
 use Rattle.model.proofs.VerdictLaws.{few-events}
 use Rattle.model.proofs.FitLaws.{judged-fits, reader-below, writer-below, address-below}
-use Rattle.model.proofs.JudgedLaws.{admitted-whole, whole-admitted, Short, scratch-short, order-short, refused-cases, moved, same-whole, never-both}
+use Rattle.model.proofs.JudgedLaws.{admitted-whole, whole-admitted, Short, scratch-short, order-short, refused-cases, moved, same-whole}
 use Rattle.model.proofs.Demands.{testable, demand3}
 use Rattle.log_order.specs.declared.Fault.{Fault}
 use Rattle.log_order.specs.declared.Fault.the-variants.{WrongLength, BadNumber, TooEarly, Barred}

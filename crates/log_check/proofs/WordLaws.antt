@@ -1,13 +1,12 @@
 -- The laws of specs/Word.antt: what is read from a word is the reply that it was made of. Assumes nothing.
 --     reply-in     replyIn (checkedWord x) ≡ x, for replies that fit
-use mathlib.Core.Path.{_≡_, refl, ap, _∙_}
-use Prim.Native.Nat.{ℕ, _<_, _^_}
+use mathlib.Core.Path.{_≡_, refl, ap}
+use Prim.Native.Nat.{_<_, _^_}
 use native.Mathlib.Omega.{arith}
 use Rattle.answer.specs.declared.Names.the-variants.{Between}
 use Rattle.answer.specs.declared.Answer.the-variants.{Refused as AnswerRefused, Broken as AnswerBroken}
 use Rattle.answer.specs.NameOf.{namesOf}
 use Rattle.answer.specs.Word.{fourBytes, word}
-use Rattle.answer.specs.Read.{byteIn}
 use Rattle.answer.proofs.WordLaws.{four-more, four-below}
 use Rattle.answer.proofs.ReadLaws.{bytes-in, kind-in, number-in, place-in, answer-in}
 use Rattle.log_order.specs.declared.Fault.{Fault}

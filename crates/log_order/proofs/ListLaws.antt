@@ -5,16 +5,16 @@
 --     bad-range, good-range, good-once                   a number that is out of range; one that is not at fault
 --     is-event, is-once, is-all                          numbers without a fault name each event once
 --     has-length, has-numbers                            and back
-use mathlib.Core.Path.{_≡_, refl, sym, ap, _∙_, subst}
-use mathlib.Core.Bool.{Bool, true, false}
+use mathlib.Core.Path.{_≡_, refl, ap, _∙_, subst}
+use mathlib.Core.Bool.{true, false}
 use mathlib.Core.Logic.{⊎-elim}
 use mathlib.Core.List.{List, _∷_}
-use Prim.Native.Nat.{ℕ, suc, _+_, _≤_, _<_}
+use Prim.Native.Nat.{ℕ, _+_, _≤_, _<_}
 use native.Mathlib.Numerals.{add-one}
 use native.Mathlib.Omega.{arith}
 use native.Mathlib.Decide.{decLt}
 use borrow.Author.Tests.{eq-eqb, eqb-true, lt-ltb, le-ltb}
-use lib.Dec.{T, eqb, ltb}
+use lib.Dec.{eqb, ltb}
 use lib.ListN.{length, getD}
 use Rattle.basis.specs.Test.{_and_, _or_, non, any, from}
 use Rattle.basis.proofs.BoolLaws.{by-bool, not-both-ways, false-of, true-T, T-true, and-both, both-hold, or-holds, or-either, or-second, non-true, non-holds}

@@ -1,14 +1,14 @@
 -- The laws of the private steps (specs/steps/Masks.antt): the tests by masks are the list's. Assumes nothing.
 --     stood-empty, stood-more, ranked-none, ranked-more     the numbers of the list, one by one
 --     bad-twice, bad-not, small-of, named-of                what a turn of `bad` tests, and what it says of the whole list
---     lacks-is, late-is, row-cross, crosses-yes, crosses-no          what `lacks` and `crosses` test
+--     lacks-is, late-is, row-cross, crosses-yes, crosses-no, first-le     what `lacks`, `early` and `crosses` test; a first is within its bound
 --     early-said, early-none                                what `ordered` answers
 --     bar-yes, bar-no                                       what `barred` answers
 --     length-said, number-said, order-said                  what `check` answers
 use mathlib.Core.Path.{_≡_, refl, sym, ap, _∙_, subst}
 use mathlib.Core.Bool.{Bool, true, false, cond, not, _&&_}
 use mathlib.Core.Logic.{⊎-elim}
-use mathlib.Core.List.{List, List·Memᴰ}
+use mathlib.Core.List.{List}
 use mathlib.Core.Option.{Option, none, some}
 use Prim.Native.Nat.{ℕ, _+_, _%_, _^_, _≤_, _<_, min}
 use native.Mathlib.Nat.{mod-eq-of-lt}
@@ -16,11 +16,11 @@ use native.Mathlib.Omega.{arith}
 use native.Mathlib.Decide.{ℕ-discrete}
 use borrow.Author.Tests.{eq-eqb, ne-eqb, eqb-true, lt-ltb, le-ltb, ltb-true, ltb-false}
 use lib.Bits.{bitAnd, bitOr}
-use lib.Dec.{T, eqb, ltb}
+use lib.Dec.{eqb, ltb}
 use lib.ListN.{length, getD, set, replicate, getD-replicate}
 use lib.Seq.{getD-set-same, getD-set-other}
-use Rattle.basis.specs.Test.{_and_, _or_, non, any, find, _else_, mapped, across, each, from}
-use Rattle.basis.proofs.BoolLaws.{by-bool, bool-ext, not-both-ways, false-of, true-T, T-true, and-holds, and-fails, and-both, both-hold, amp-and, bar-or, or-holds, or-fails, or-either, or-none, or-second, non-true, non-false, non-holds, non-fails, and-parts}
+use Rattle.basis.specs.Test.{_and_, _or_, non, any, find, _else_, mapped, from}
+use Rattle.basis.proofs.BoolLaws.{by-bool, bool-ext, not-both-ways, false-of, true-T, T-true, and-holds, and-fails, and-both, both-hold, amp-and, bar-or, or-holds, or-fails, or-either, or-none, or-second, non-true, non-holds, non-fails, and-parts}
 use Rattle.basis.proofs.ListLaws.{from-mem, from-elim}
 use Rattle.basis.proofs.LoopLaws.{any-elim, any-intro}
 use Rattle.basis.proofs.FindLaws.{find-same, find-at, find-no, find-firsts}
@@ -44,7 +44,7 @@ use Rattle.log_order.specs.declared.Said.the-variants.{Accepted, Rejecte
 use Rattle.log_order.specs.Listed.{stood, aheadIn, ahead, badAt, earlyAt, barredAt, longest, lengthFault, numberFault, earlyFault, barFault, listFault, saidOf}
 use Rattle.log_order.specs.Trial.{trialIn}
 use Rattle.log_order.specs.steps.Masks.{Small, Stood, Ranked, Named, lacks, lateIn, crossIn, crossesIn, barIn}
-use Rattle.log_order.proofs.ListLaws.{stood-none, stood-next, ahead-none, ahead-next, ahead-precedes, precedes-ahead, bad-range, bad-again, good-range, is-event, is-once, is-all}
+use Rattle.log_order.proofs.ListLaws.{stood-none, stood-next, ahead-none, ahead-next, ahead-precedes, precedes-ahead, bad-again, good-range, is-event, is-once, is-all}
 use Rattle.log_order.proofs.MeetsLaws.{late-at, at-late, barred-at}
 
 -- ---- the first numbers as a set

@@ -5,15 +5,15 @@
 use mathlib.Core.Path.{_≡_, refl, sym, ap, _∙_, subst}
 use mathlib.Core.Bool.{Bool, true, false, cond}
 use mathlib.Core.Logic.{_⊎_, inl, inr, ⊎-elim}
-use mathlib.Core.List.{List, [], _∷_, List·Memᴰ}
+use mathlib.Core.List.{List, [], _∷_}
 use mathlib.Core.Option.{Option, none, some, Option·none-ne-some}
-use Prim.Native.Nat.{ℕ, zero, suc, _≤_, _<_, min}
+use Prim.Native.Nat.{ℕ, zero, suc, _<_, min}
 use native.Mathlib.Omega.{arith}
-use borrow.Author.Tests.{eq-eqb, eqb-true, ltb-true, ltb-false}
+use borrow.Author.Tests.{eq-eqb, ltb-true, ltb-false}
 use lib.Dec.{T, eqb, ltb}
 use lib.ListN.{length, getD}
 use Rattle.basis.specs.Test.{_or_, non, find, _else_, across, from}
-use Rattle.basis.proofs.BoolLaws.{by-bool, not-both-ways, true-T, T-true, T-false, or-either, non-true}
+use Rattle.basis.proofs.BoolLaws.{by-bool, not-both-ways, T-false, or-either, non-true}
 use Rattle.basis.proofs.ListLaws.{from-mem}
 use Rattle.basis.proofs.FindLaws.{find-none, else-cases, mapped-some, same-some, across-found, across-more}
 use Rattle.format.specs.declared.Row.{Row}
@@ -26,7 +26,7 @@ use Rattle.orders.proofs.PlaceLaws.{in-at}
 use Rattle.log_order.specs.declared.Fault.{Fault}
 use Rattle.log_order.specs.declared.Fault.the-variants.{WrongLength, BadNumber, TooEarly, Barred}
 use Rattle.log_order.specs.Listed.{stood, Trial, badAt, earlyAt, barredAt, longest, lengthFault, numberFault, earlyFault, barFault, listFault}
-use Rattle.log_order.specs.Means.{Once, Bad, Early, Crossed, IsWrong, IsBad, IsEarly, IsBarred, Means}
+use Rattle.log_order.specs.Means.{Once, Bad, Early, Crossed, IsBarred, Means}
 use Rattle.log_order.specs.Promises.{Strict}
 use Rattle.log_order.proofs.ListLaws.{stood-at, at-stood, bad-range, bad-again, is-event, is-once, is-all}
 use Rattle.log_order.proofs.MeetsLaws.{right-length, number-none, early-nothing, late-at, at-late, barred-at, at-barred, in-order}

@@ -3,24 +3,24 @@
 --     faultless, none-found  that is, `listFault` finds none
 --     in-order               of two events of which one happens before the other, that one stands first
 --     faultless-meets, meets-faultless
-use mathlib.Core.Path.{_≡_, refl, sym, ap, _∙_, subst}
+use mathlib.Core.Path.{_≡_, refl, sym, ap, subst}
 use mathlib.Core.Bool.{Bool, true, false, cond}
 use mathlib.Core.List.{List, List·Memᴰ}
 use mathlib.Core.Option.{Option, none, some}
-use Prim.Native.Nat.{ℕ, _≤_, _<_, min}
+use Prim.Native.Nat.{ℕ, _<_, min}
 use native.Mathlib.Omega.{arith}
 use borrow.Author.Tests.{eq-eqb, eqb-true}
 use lib.Dec.{T, eqb}
 use lib.ListN.{length, getD}
-use Rattle.basis.specs.Test.{_and_, any, find, across, from}
-use Rattle.basis.proofs.BoolLaws.{by-bool, true-T, T-true, T-false, not-both-ways, and-elim, and-intro, and-both}
+use Rattle.basis.specs.Test.{_and_, find, across, from}
+use Rattle.basis.proofs.BoolLaws.{true-T, T-true, T-false, not-both-ways, and-elim, and-intro, and-both}
 use Rattle.basis.proofs.ListLaws.{from-mem, from-elim, across-mem, across-left}
 use Rattle.basis.proofs.LoopLaws.{any-elim, any-intro}
 use Rattle.basis.proofs.FindLaws.{find-none, none-find, else-none, none-else, mapped-none, none-mapped}
 use Rattle.format.specs.declared.Row.{Row}
-use Rattle.orders.specs.Order.{In, Precedes, Meets}
+use Rattle.orders.specs.Order.{Precedes, Meets}
 use Rattle.orders.proofs.OrderLaws.{precedes-in}
-use Rattle.orders.proofs.PlaceLaws.{in-at, at-in, precedes-left, either-way, distinct-loop}
+use Rattle.orders.proofs.PlaceLaws.{in-at, at-in, either-way, distinct-loop}
 use Rattle.log_order.specs.declared.Fault.{Fault}
 use Rattle.log_order.specs.declared.Fault.the-variants.{WrongLength}
 use Rattle.log_order.specs.Listed.{ahead, Trial, badAt, earlyAt, barredAt, longest, lengthFault, numberFault, earlyFault, barFault, listFault}

@@ -1,13 +1,13 @@
 -- Two trials that agree on their events and rows name the same faults. Assumes nothing.
 --     fault-same     so what is said of a list over the tables is what is said of it over an execution
-use mathlib.Core.Path.{_≡_, refl, sym, ap, ap₂, _∙_, subst}
+use mathlib.Core.Path.{_≡_, ap, ap₂}
 use mathlib.Core.Bool.{Bool}
 use mathlib.Core.List.{List, List·Memᴰ}
 use mathlib.Core.Option.{Option}
 use Prim.Native.Nat.{ℕ, _<_}
 use native.Mathlib.Omega.{arith}
 use lib.ListN.{length, getD}
-use Rattle.basis.specs.Test.{_and_, find, _else_, mapped, across, from}
+use Rattle.basis.specs.Test.{_and_, _else_, mapped, across, from}
 use Rattle.basis.proofs.ListLaws.{from-elim, across-left, across-right}
 use Rattle.basis.proofs.LoopLaws.{any-same}
 use Rattle.basis.proofs.FindLaws.{find-same}

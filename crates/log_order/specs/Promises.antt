@@ -6,7 +6,6 @@ use Prim.Native.Nat.{ℕ, _<_}
 use mathlib.Core.Path.{_≡_}
 use mathlib.Core.Logic.{_↔_}
 use mathlib.Core.List.{List}
-use mathlib.Core.Option.{none, some}
 use lib.Dec.{T}
 use Rattle.orders.specs.Order.{Meets}
 use Rattle.log_order.specs.declared.Fault.{Fault}

@@ -5,7 +5,7 @@
 use mathlib.Core.Path.{_≡_, sym, _∙_, subst}
 use mathlib.Core.Logic.{_⊎_, inl, inr}
 use mathlib.Core.Bool.{Bool}
-use mathlib.Core.List.{List, [], _∷_, _++_, List·Memᴰ}
+use mathlib.Core.List.{List, List·Memᴰ}
 use Prim.Native.Nat.{ℕ, _+_, _<_}
 use native.Mathlib.Omega.{arith}
 use lib.Dec.{T}
@@ -17,11 +17,10 @@ use Rattle.format.specs.declared.Row.{Row}
 use Rattle.format.specs.Event.{isInit}
 use Rattle.format.specs.Execution.{Execution, event, inits, others}
 use Rattle.format.proofs.ShapeLaws.{both-elim}
-use Rattle.orders.specs.Order.{In, Precedes, Distinct}
 use Rattle.orders.specs.Inits.{Begins}
 use Rattle.orders.specs.Order.{Meets}
 use Rattle.orders.specs.Step.{Below}
-use Rattle.orders.proofs.OrderLaws.{None, precedes-in, meets-runs}
+use Rattle.orders.proofs.OrderLaws.{None, meets-runs}
 use Rattle.orders.proofs.StepLaws.{same-runs}
 use Rattle.orders.proofs.TrailLaws.{runs-length}
 use Rattle.model.specs.Events.{atRow}

@@ -43,7 +43,6 @@ use Rattle.model.proofs.FitLaws.{judged-fits}
 use Rattle.model.proofs.Editions.{by-record}
 use Rattle.plimdrong.specs.JudgedWord.{JudgedWord}
 use Rattle.plimdrong.specs.WrittenWord.{WrittenWord}
-use Rattle.log_check.specs.declared.Reply.{Reply}
 use Rattle.log_check.specs.declared.Reply.the-variants.{Listed}
 use Rattle.log_order.specs.declared.Said.the-variants.{Accepted}
 use Rattle.log_check.specs.Checked.{Checked}

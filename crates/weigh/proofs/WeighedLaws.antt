@@ -1,9 +1,9 @@
 -- The laws of specs/Weighed.antt. Assumes nothing.
 --     weighed-broken, weighed-kept     how the code's answers are made
 --     weighed-unique                   two conforming answers are equal, both buffers too
-use mathlib.Core.Path.{_≡_, refl, sym, ap, _∙_, subst}
+use mathlib.Core.Path.{_≡_, refl, sym, _∙_, subst}
 use mathlib.Core.List.{List}
-use Prim.Native.Nat.{ℕ, min}
+use Prim.Native.Nat.{ℕ}
 use lib.ListN.{replicate}
 use Rattle.entries.specs.declared.Counts.{Counts}
 use Rattle.sets.specs.Mask.{slots}
@@ -13,7 +13,7 @@ use Rattle.answer.specs.declared.Answer.the-variants.{Broken}
 use Rattle.answer.specs.declared.Names.{Names}
 use Rattle.answer.specs.declared.Rule.{Rule}
 use Rattle.answer.specs.declared.Rule.the-variants.{Kept, Breach}
-use Rattle.tables.specs.Tables.{columns, rowRoom, rowCells, pairRoom}
+use Rattle.tables.specs.Tables.{columns, rowCells}
 use Rattle.prepare.specs.Prepared.{Prepared}
 use Rattle.prepare.proofs.PreparedLaws.{prepared-unique}
 use Rattle.arrange.specs.Arranged.{Arranged}

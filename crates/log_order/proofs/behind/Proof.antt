@@ -1,7 +1,6 @@
 -- `log_order::behind` meets its contract: `left` has the members of which nothing is known yet. The measure is `left`, which gets smaller as a number.
 -- Assumes nothing.
 use mathlib.Core.Path.{_≡_, sym, ap, _∙_, subst}
-use mathlib.Core.Bool.{Bool}
 use Prim.Native.Nat.{ℕ, _%_}
 use denote.Ref.{now}
 use native.Mathlib.Nat.{mod-eq-of-lt}

@@ -1,5 +1,5 @@
 -- `log_order::check` meets its contract: the length, the numbers, then their order. Assumes nothing.
-use mathlib.Core.Path.{_≡_, sym, ap, _∙_, subst}
+use mathlib.Core.Path.{sym, ap, _∙_}
 use Prim.Native.Nat.{ℕ, min}
 use native.Mathlib.Omega.{arith}
 use denote.Ref.{now}
@@ -9,8 +9,7 @@ use Rattle.cells.specs.First.{firstOf}
 use Rattle.tables.specs.Tables.{rowRoom}
 use Rattle.log_order.specs.declared.Said.the-variants.{Rejected}
 use Rattle.log_order.specs.declared.Fault.the-variants.{WrongLength}
-use Rattle.log_order.specs.Listed.{badAt, listFault, saidOf}
-use Rattle.log_order.specs.Trial.{trialIn}
+use Rattle.log_order.specs.Listed.{badAt}
 use Rattle.log_order.proofs.MasksLaws.{named-of, length-said, number-said, order-said}
 use borrow.Author.Needs.{needs}
 use Rattle.log_order.proofs.check.Statement.{statement}

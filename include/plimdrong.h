@@ -27,7 +27,7 @@
  *    3 tag unknown, falling, a second head, no head; the empty sheet      its tag, or 0
  *    4 length wrong for the field                    the field's tag
  *    5, 6, 7, 8 content of head, event, row, pair    the field's tag   (6: an edition 2 event's tear byte too)
- *    9 fifth init, 17th other event, 33rd pair       the field's tag
+ *    9 fifth init, 19th other event, 33rd pair       the field's tag
  *   10 no event reads                                the sheet's length
  *   14 an agent that the head promises has no event  the sheet's length
  *   11 a read byte without a row                     the tag of the lowest such event
@@ -46,7 +46,7 @@
  * the first two names are the lowest unsettled pair. The scratch's needed part is zero. The order buffer's first bytes,
  * one for each event, hold the first order that meets the rules; its rest is unchanged. The word does not carry the
  * number of events: fill the buffer with PLIMDRONG_NONE before the call, and the order ends at the first PLIMDRONG_NONE,
- * since no event has that number, or at the buffer's end: 20 events in 20 bytes leave none.
+ * since no event has that number, or at the buffer's end: 22 events in 22 bytes leave none.
  *
  * THE SCRATCH needs, with n events that are not inits, the larger of 1 and 2^n / 8 bytes; what it holds on entry does
  * not matter. The buffers overlap neither each other nor the sheet. A length may be 0; no pointer may be null.
@@ -122,12 +122,12 @@
 
 /* The longest sheet; scratch and order buffer enough for every sheet. */
 #define PLIMDRONG_MAX_SHEET 4096
-#define PLIMDRONG_MAX_SCRATCH 8192
-#define PLIMDRONG_MAX_EVENTS 20
+#define PLIMDRONG_MAX_SCRATCH 32768
+#define PLIMDRONG_MAX_EVENTS 22
 
 /* Other limits of a sheet: inits, events that are no inits, pairs, bytes of memory, the width of what is no init. */
 #define PLIMDRONG_MAX_INITS 4
-#define PLIMDRONG_MAX_OTHERS 16
+#define PLIMDRONG_MAX_OTHERS 18
 #define PLIMDRONG_MAX_PAIRS 32
 #define PLIMDRONG_MAX_MEMORY 64
 #define PLIMDRONG_MAX_WIDTH 8

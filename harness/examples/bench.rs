@@ -9,7 +9,7 @@ use second::text::{from_text, to_text};
 use std::hint::black_box;
 use std::time::Instant;
 
-const SIZES: [usize; 4] = [4, 8, 12, 16];
+const SIZES: [usize; 5] = [4, 8, 12, 16, 18];
 const SHEETS: usize = 200;
 const ROUNDS: usize = 401;
 /// A round takes about this long in seconds: less than a slice of the processor, so that the lowest was not interrupted.

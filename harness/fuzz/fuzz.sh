@@ -26,6 +26,12 @@ for line in sys.stdin:
         with open(sys.argv[1] + "/list-" + name, "wb") as f:
             f.write(bytes.fromhex(sheet.strip("-")) + numbers + bytes([len(numbers), 0xfd]))
 ' "$out/seeds"
+# and the largest litmus sheets with buffers that are just enough, and a byte too short: order, scratch, the byte that says so
+for lengths in '\026\017\376' '\025\017\376' '\026\217\376'; do
+    for sheet in 16a-eighteen-others s6a-twenty-two-events-the-last-first; do
+        { cat "$root/examples/litmus/$sheet.sheet" && printf "$lengths"; } >"$out/seeds/$sheet-$(printf "$lengths" | od -An -tx1 | tr -d ' \n')"
+    done
+done
 lib=$(ls "$root"/target/cargo/fuzz/*/release/libfuzz_second.a)
 clang -g -O1 -fsanitize=fuzzer,address -I "$root/include" target.c "$root/target/native/libplimdrong.a" "$lib" \
     -o "$out/target" -lpthread -ldl -lm

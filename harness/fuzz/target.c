@@ -1,7 +1,7 @@
 /* The fuzz target: bytes as a sheet, judged by plimdrong_judge and by the second program; word, order and both buffers
- * are compared, and so are the bytes around the buffers. The input's last two bytes may choose the buffers' lengths, so
- * that 12 and 13 come up too. Or they say that a list stands before them: then plimdrong_check is compared as well. It
- * accepts every order that the judge gives. */
+ * are compared, and so are the bytes around the buffers. The input's last three bytes may choose the buffers' lengths,
+ * up to those that are enough for every sheet, so that 12 and 13 come up too, by one byte as well. Or the last two say that
+ * a list stands before them: then plimdrong_check is compared as well. It accepts every order that the judge gives. */
 #include "plimdrong.h"
 
 #include <stdio.h>
@@ -34,10 +34,10 @@ int LLVMFuzzerTestOneInput(const uint8_t *data, size_t size) {
     size_t scratch = PLIMDRONG_MAX_SCRATCH, order = PLIMDRONG_MAX_EVENTS, length = size, listed = 0;
     uint64_t a, b;
     uint8_t *sheet, *list;
-    if (size >= 2 && data[size - 1] == 0xfe) { /* a tag that never is: the two bytes are not part of the sheet */
-        length = size - 2;
-        scratch = (size_t)1 << (data[size - 2] & 15);
-        order = data[size - 2] >> 4;
+    if (size >= 3 && data[size - 1] == 0xfe) { /* a tag that never is: the three bytes are not part of the sheet */
+        length = size - 3;
+        scratch = ((size_t)1 << (data[size - 2] & 15)) - (data[size - 2] >> 7); /* 2^15 is the most */
+        order = data[size - 3] % (PLIMDRONG_MAX_EVENTS + 1);
     }
     if (size >= 2 && data[size - 1] == 0xfd) { /* another: before it the length of a list, and before that the list */
         listed = data[size - 2];

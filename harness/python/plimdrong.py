@@ -41,8 +41,8 @@ import threading
 __all__ = ["judge", "judge_many", "check", "names", "listed", "row", "read", "line_of_csv", "status", "Unreadable", "HEADER"]
 
 MAX_SHEET = 4096
-MAX_SCRATCH = 8192
-MAX_EVENTS = 20
+MAX_SCRATCH = 32768
+MAX_EVENTS = 22
 
 # One byte more than the longest sheet has: the judge sees by it that a sheet is too long, and needs no more.
 LOOKED_AT = MAX_SHEET + 1

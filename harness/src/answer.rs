@@ -159,9 +159,13 @@ impl Answer {
     }
 }
 
-/// A report line as it is put together: `consistent unsettled 19 18 then` and twenty numbers are 84 bytes, the longest.
+/// The length of the longest report line.
+const LINE: usize = "consistent unsettled 254 254 then".len() + 4 * MAX_EVENTS;
+
+/// A report line as it is put together. The longest, `consistent unsettled 254 254 then` and a number of three digits for each
+/// event, comes of no sheet, but a caller's buffer may say it.
 struct Line {
-    bytes: [u8; 96],
+    bytes: [u8; LINE],
     length: usize,
 }
 
@@ -190,7 +194,7 @@ impl Line {
     }
 
     fn of(answer: &Answer) -> Line {
-        let mut line = Line { bytes: [0; 96], length: 0 };
+        let mut line = Line { bytes: [0; LINE], length: 0 };
         match answer {
             Answer::Refused { number, place } => {
                 line.put("refused");
@@ -228,7 +232,7 @@ impl Line {
 /// The report line, without its newline.
 impl fmt::Display for Answer {
     fn fmt(&self, f: &mut fmt::Formatter) -> fmt::Result {
-        // put together first: a sheet is judged in less time than a formatter takes for twenty numbers
+        // put together first: a sheet is judged in less time than a formatter takes for its numbers
         let line = Line::of(self);
         f.write_str(std::str::from_utf8(&line.bytes[..line.length]).unwrap_or_default())
     }

@@ -77,14 +77,14 @@ pub use words::{refusal, Refusal};
 
 /// The longest sheet in bytes. A longer one is refused, number 1.
 pub const MAX_SHEET: usize = 4096;
-/// Scratch enough for every sheet: a bit for each set of 16 events.
-pub const MAX_SCRATCH: usize = 8192;
-/// The most events: 4 inits and 16 others.
-pub const MAX_EVENTS: usize = 20;
+/// Scratch enough for every sheet: a bit for each set of 18 events.
+pub const MAX_SCRATCH: usize = 32768;
+/// The most events: 4 inits and 18 others.
+pub const MAX_EVENTS: usize = 22;
 /// The most inits.
 pub const MAX_INITS: usize = 4;
 /// The most events that are not inits.
-pub const MAX_OTHERS: usize = 16;
+pub const MAX_OTHERS: usize = 18;
 /// The most pairs.
 pub const MAX_PAIRS: usize = 32;
 /// The most bytes of memory.

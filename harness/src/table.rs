@@ -536,7 +536,7 @@ impl Unwritable {
             5 => Entry::Head,
             7 => Entry::Row,
             8 => Entry::Pair,
-            // a fifth init is event 4, a 17th other event at most event 20, a 33rd pair always pair 32
+            // a fifth init is event 4, a 19th other event at most event 22, a 33rd pair always pair 32
             9 if index >= crate::MAX_PAIRS => Entry::Pair,
             4 | 6 | 9 | 11 => Entry::Event,
             _ => Entry::Table,

@@ -50,7 +50,7 @@ pub fn refusal(number: u8) -> Option<Refusal> {
             "Both are markers, of different agents, and pairs rise strictly.",
         ),
         9 => (
-            "Too many events or pairs: a fifth init, a 17th other event or a 33rd pair.",
+            "Too many events or pairs: a fifth init, a 19th other event or a 33rd pair.",
             "Record a shorter execution; several inits side by side can be one.",
         ),
         10 => ("No event reads, so there is nothing to judge.", "Check that the reads were recorded."),
@@ -60,11 +60,11 @@ pub fn refusal(number: u8) -> Option<Refusal> {
         ),
         12 => (
             "The scratch is too short.",
-            "Lend the larger of 1 and 2^n / 8 bytes for n events that are not inits; 8,192 are enough for every sheet.",
+            "Lend the larger of 1 and 2^n / 8 bytes for n events that are not inits; 32,768 are enough for every sheet.",
         ),
         13 => (
             "The order buffer is shorter than the number of events.",
-            "Lend a byte for each event; 20 are enough for every sheet.",
+            "Lend a byte for each event; 22 are enough for every sheet.",
         ),
         14 => (
             "An agent that the head promises has no event.",

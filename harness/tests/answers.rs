@@ -67,9 +67,12 @@ fn consistent() {
     let Answer::Consistent { order, pair } = unsettled else { panic!() };
     assert_eq!((&order[..], pair), (&[0, 1][..], Some((1, 4))));
     // the longest order fills the buffer; a longer one is none
-    let full: Vec<u8> = (0..20).collect();
-    assert!(Answer::from_word(0x300_ffff_ffff, &full).unwrap().to_string().ends_with(" 18 19"));
-    assert_eq!(Answer::from_word(0x300_ffff_ffff, &[0; 21]), None);
+    let full: Vec<u8> = (0..22).collect();
+    assert!(Answer::from_word(0x300_ffff_ffff, &full).unwrap().to_string().ends_with(" 20 21"));
+    assert_eq!(Answer::from_word(0x300_ffff_ffff, &[0; 23]), None);
+    // the longest line that a word and a buffer can say, though no sheet has such events
+    let longest = Answer::from_word(0x301_fefe_ffff, &[254; 22]).unwrap().to_string();
+    assert_eq!(longest, format!("consistent unsettled 254 254 then{}", " 254".repeat(22)));
     for word in
         [0, 0x300_0102_ffff, 0x301_0102_ff00, 0x301_01ff_ffff, 0x301_ffff_ffff, 0x302_ffff_ffff, 0x400_0000_0000]
     {

@@ -21,10 +21,10 @@ fn number(word: u64) -> (u64, u64) {
 
 #[test]
 fn after_a_refusal_both_are_unchanged() {
-    for name in ["02-row-removed", "16b-seventeenth-event", "16c-head-alone", "16e-agents-9"] {
-        let (word, s, o) = run(&sheet(name), 8192, 20);
+    for name in ["02-row-removed", "16b-nineteenth-event", "16c-head-alone", "16e-agents-9"] {
+        let (word, s, o) = run(&sheet(name), MAX_SCRATCH, MAX_EVENTS);
         assert_eq!(number(word).0, 1);
-        assert_eq!((s, o), (vec![9; 8192], vec![9; 20]), "{name}");
+        assert_eq!((s, o), (vec![9; MAX_SCRATCH], vec![9; MAX_EVENTS]), "{name}");
     }
     // 12 and 13
     let fifteen = sheet("15-markers"); // six events that are not inits: 8 bytes
@@ -71,13 +71,41 @@ fn after_a_consistent_one_the_order_stands_in_front() {
     }
 }
 
-/// Litmus 16: 8,192 bytes of scratch for 16 events, and no byte less.
+/// Litmus 16: 32,768 bytes of scratch for 18 events, and no byte less; and so for every number of events below: a sheet of
+/// so many markers and one read.
 #[test]
-fn sixteen_events() {
-    let sixteen = sheet("16a-sixteen-others");
-    assert_eq!(number(run(&sixteen, 8192, 17).0).0, 3);
-    assert_eq!(number(run(&sixteen, 8191, 17).0), (1, 12));
-    assert_eq!(number(run(&sixteen, 8192, 16).0), (1, 13));
+fn scratch_by_the_number_of_events() {
+    let eighteen = sheet("16a-eighteen-others");
+    assert_eq!(number(run(&eighteen, 32768, 19).0).0, 3);
+    assert_eq!(number(run(&eighteen, 32767, 19).0), (1, 12));
+    assert_eq!(number(run(&eighteen, 32768, 18).0), (1, 13));
+    let by_hand = [1, 1, 1, 2, 4, 8, 16, 32, 64, 128, 256, 512, 1024, 2048, 4096, 8192, 16384, 32768];
+    for (i, needed) in by_hand.into_iter().enumerate() {
+        let markers = "A1 marker\n".repeat(i);
+        let text = format!("head 1 1 1\ninit at 0: 00\nA1 read sc at 0: 00\n{markers}row 1 0 0\n");
+        let bytes = from_text(&text).unwrap();
+        let (word, s, o) = run(&bytes, needed, i + 2);
+        assert_eq!((word, s), (0x300_ffff_ffff, vec![0; needed]), "{text}");
+        assert_eq!(o, (0..i as u8 + 2).collect::<Vec<u8>>(), "{text}");
+        assert_eq!(run(&bytes, needed - 1, i + 2).0, 0x10c_0000_0000, "{text}");
+        assert_eq!(run(&bytes, needed, i + 1).0, 0x10d_0000_0000, "{text}");
+    }
+    // one marker more
+    let text = format!("head 1 1 1\ninit at 0: 00\nA1 read sc at 0: 00\n{}row 1 0 0\n", "A1 marker\n".repeat(18));
+    assert_eq!(number(run(&from_text(&text).unwrap(), MAX_SCRATCH, MAX_EVENTS).0), (1, 9));
+}
+
+/// 22 events, the most, in buffers that are just enough: the order fills its buffer.
+#[test]
+fn four_inits_and_eighteen_others() {
+    let inits: String = (0..4).map(|i| format!("init at {i}: 00\n")).collect();
+    let reads: String = (0..18).map(|i| format!("A{} read sc at {}: 00\n", 1 + i % 8, i % 4)).collect();
+    let rows: String = (0..18).map(|i| format!("row {} {} {}\n", 4 + i, i % 4, i % 4)).collect();
+    let bytes = from_text(&format!("head 1 8 4\n{inits}{reads}{rows}")).unwrap();
+    let (word, s, o) = run(&bytes, 32768, 22);
+    assert_eq!((word, s, o), (0x300_ffff_ffff, vec![0; 32768], (0..22).collect()));
+    assert_eq!(run(&bytes, 32767, 22).0, 0x10c_0000_0000);
+    assert_eq!(run(&bytes, 32768, 21).0, 0x10d_0000_0000);
 }
 
 /// Every length of the two buffers from 0 up: 12 below what the scratch needs, then 13 below the number of events.
@@ -110,7 +138,7 @@ fn lengths_from_0_up() {
     }
     // the same for sheets of every size
     for index in 0..2000 {
-        let c = case(31, index, 16);
+        let c = case(31, index, second::sheet::MAX_OTHERS);
         let Ok(x) = second::read(&c.sheet) else { continue };
         let (needed, events) = (second::needed_scratch(&x), x.events.len());
         assert_eq!(number(run(&c.sheet, needed - 1, events).0), (1, 12));

@@ -93,7 +93,7 @@ fn macros() {
         plimdrong::MAX_TABLE_ROWS,
         plimdrong::MAX_TABLE_PAIRS,
     ];
-    assert_eq!(sizes, [3, 8 * 20, 512, 3 * 128, 2 * 32]);
+    assert_eq!(sizes, [3, 8 * 22, 4 * 64 + 18 * 16, 3 * 18 * 8, 2 * 32]);
     let first = format!("1 2 3 5 6 7 14\n1 2 3 4\n{}\n", sizes.map(|n| n.to_string()).join(" "));
     let lines: String = words
         .iter()
@@ -167,10 +167,14 @@ fn check() {
     }
 }
 
-/// The header's constants are the crate's.
+/// The header's constants are the crate's, and so are those of the Python module; a scratch is a bit for each set of events.
 #[test]
 fn constants() {
+    assert_eq!((plimdrong::MAX_INITS, plimdrong::MAX_OTHERS), (4, 18));
+    assert_eq!(plimdrong::MAX_SCRATCH, 2usize.pow(plimdrong::MAX_OTHERS as u32) / 8);
+    assert_eq!(plimdrong::MAX_EVENTS, plimdrong::MAX_INITS + plimdrong::MAX_OTHERS);
     let header = std::fs::read_to_string(root().join("include/plimdrong.h")).unwrap();
+    let python = std::fs::read_to_string(root().join("harness/python/plimdrong.py")).unwrap();
     for (name, value) in [
         ("MAX_SHEET", plimdrong::MAX_SHEET),
         ("MAX_SCRATCH", plimdrong::MAX_SCRATCH),
@@ -182,5 +186,8 @@ fn constants() {
         ("MAX_WIDTH", plimdrong::MAX_WIDTH),
     ] {
         assert!(header.contains(&format!("#define PLIMDRONG_{name} {value}\n")), "{name}");
+        let own = format!("\n{name} = ");
+        assert!(!python.contains(&own) || python.contains(&format!("{own}{value}\n")), "{name} in Python");
     }
+    assert_eq!(python.matches("\nMAX_").count(), 3, "a constant that is not compared");
 }

@@ -123,10 +123,10 @@ fn the_sheet_comes_first() {
     assert_eq!(check(&[7; 4097], &[0; 9]).to_string(), "refused 1 at 0");
 }
 
-/// 12 and 13 never come: of 16 events no scratch is asked for.
+/// 12 and 13 never come: of 18 events no scratch is asked for.
 #[test]
-fn sixteen_events() {
-    let sheet = litmus("16a-sixteen-others");
+fn eighteen_events() {
+    let sheet = litmus("16a-eighteen-others");
     let Answer::Consistent { order, .. } = judge(&sheet) else { panic!() };
     assert_eq!(check(&sheet, &order), Checked::Accepted);
     assert_eq!(check(&sheet, &order[1..]).to_string(), format!("not accepted 1 length {}", order.len() - 1));

@@ -91,7 +91,7 @@ fn stored_sheets_there_and_back() {
     }
     assert!(whole >= 10, "{whole}");
     for index in 0..2_000 {
-        let c = case(5, index, 16);
+        let c = case(5, index, second::sheet::MAX_OTHERS);
         there_and_back(&c.name, &c.sheet);
     }
 }
@@ -278,8 +278,8 @@ fn refusals_in_words() {
         "event 0 (event 1 1 1 0 2 1: 00): Its data has the wrong length. It has 1 data byte, and 2 are asked for. A read ",
     );
     begins(
-        &format!("head 1 1 2\n{}", "A1 marker\n".repeat(17)),
-        "event 16 (A1 marker): Too many events or pairs: a fifth init, a 17th other event or a 33rd pair. ",
+        &format!("head 1 1 2\n{}", "A1 marker\n".repeat(19)),
+        "event 18 (A1 marker): Too many events or pairs: a fifth init, a 19th other event or a 33rd pair. ",
     );
     let pairs: String = (0..8).flat_map(|a| (8..16).map(move |b| format!("pair {a} {b}\n"))).collect();
     let markers = "A1 marker\n".repeat(8) + &"A2 marker\n".repeat(8);

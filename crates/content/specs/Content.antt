@@ -79,7 +79,7 @@ standsFirst events a = all isInit events and non (any (meets a) events)
 unfoldable pub eventFits : Head → List Event → ℕ → Shape → Bool
 eventFits h events agent a = alone h agent a and (non (initial a) or standsFirst events a)
 
--- 01: "At most 4." (inits); "at most 16 together" (others); by their counts so far
+-- 01: "At most 4." (inits); "at most 16 together" (others), by 02 §6 18; by their counts so far
 unfoldable pub roomIn : ℕ → ℕ → ℕ → Bool
 roomIn i o agent = cond (eqb agent 0) (ltb i maxInits) (ltb o maxOthers)
 

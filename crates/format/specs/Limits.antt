@@ -25,9 +25,9 @@ maxMemory = 64
 abbrev pub maxInits : ℕ
 maxInits = 4
 
--- 01: "at most 16 together, markers included"
+-- 01: "at most 16 together, markers included"; 02 §6: "Raise the count of events that are not inits from 16 to 18"
 abbrev pub maxOthers : ℕ
-maxOthers = 16
+maxOthers = 18
 
 abbrev pub maxEvents : ℕ
 maxEvents = maxInits + maxOthers

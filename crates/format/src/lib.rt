@@ -12,7 +12,7 @@ pub const MAX_MEMORY: u8 = 64;
 
 pub const MAX_INITS: u8 = 4;
 
-pub const MAX_OTHERS: u8 = 16;
+pub const MAX_OTHERS: u8 = 18;
 
 pub const MAX_PAIRS: u16 = 32;
 

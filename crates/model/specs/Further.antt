@@ -17,16 +17,16 @@ further =
     ∷ judged (sheet (head 2 2 ∷ init 0 (0 ∷ 0 ∷ []) ∷ write 1 unordered 0 (1 ∷ []) ∷ write 1 unordered 1 (1 ∷ []) ∷ read 2 unordered 1 (1 ∷ []) ∷ read 2 unordered 0 (0 ∷ []) ∷ row 3 1 2 ∷ row 4 0 0 ∷ [])) (Consistent (Unsettled 1 4)) (0 ∷ 1 ∷ 2 ∷ 3 ∷ 4 ∷ [])
     -- 13-may-tear: 13. At 1, memory 3: unsettled 1 2, order 0 1 2 3. (As 12 otherwise.)
     ∷ judged (sheet (head 3 3 ∷ init 0 (0 ∷ 0 ∷ 0 ∷ []) ∷ write 1 unordered 1 (1 ∷ 1 ∷ []) ∷ write 2 unordered 1 (2 ∷ 2 ∷ []) ∷ read 3 unordered 1 (1 ∷ 2 ∷ []) ∷ row 3 1 1 ∷ row 3 2 2 ∷ [])) (Consistent (Unsettled 1 2)) (0 ∷ 1 ∷ 2 ∷ 3 ∷ [])
-    -- 16a-sixteen-others: 16. 16 other events with 8,192 bytes of scratch: judged; with 8,191: refused 12. (Each of eight agents writes its own byte and reads it. The program always lends 8,192 bytes; 8,191 are tried by the harness's tests.)
-    ∷ judged (sheet (head 8 8 ∷ init 0 (replicate 8 0) ∷ write 1 unordered 0 (1 ∷ []) ∷ read 1 unordered 0 (1 ∷ []) ∷ write 2 unordered 1 (2 ∷ []) ∷ read 2 unordered 1 (2 ∷ []) ∷ write 3 unordered 2 (3 ∷ []) ∷ read 3 unordered 2 (3 ∷ []) ∷ write 4 unordered 3 (4 ∷ []) ∷ read 4 unordered 3 (4 ∷ []) ∷ write 5 unordered 4 (5 ∷ []) ∷ read 5 unordered 4 (5 ∷ []) ∷ write 6 unordered 5 (6 ∷ []) ∷ read 6 unordered 5 (6 ∷ []) ∷ write 7 unordered 6 (7 ∷ []) ∷ read 7 unordered 6 (7 ∷ []) ∷ write 8 unordered 7 (8 ∷ []) ∷ read 8 unordered 7 (8 ∷ []) ∷ row 2 0 1 ∷ row 4 1 3 ∷ row 6 2 5 ∷ row 8 3 7 ∷ row 10 4 9 ∷ row 12 5 11 ∷ row 14 6 13 ∷ row 16 7 15 ∷ [])) (Consistent Orderly) (0 ∷ 1 ∷ 2 ∷ 3 ∷ 4 ∷ 5 ∷ 6 ∷ 7 ∷ 8 ∷ 9 ∷ 10 ∷ 11 ∷ 12 ∷ 13 ∷ 14 ∷ 15 ∷ 16 ∷ [])
-    -- 16a-sixteen-others, lent a scratch of 8191 and an order buffer of 20
-    ∷ lending 8191 20 (sheet (head 8 8 ∷ init 0 (replicate 8 0) ∷ write 1 unordered 0 (1 ∷ []) ∷ read 1 unordered 0 (1 ∷ []) ∷ write 2 unordered 1 (2 ∷ []) ∷ read 2 unordered 1 (2 ∷ []) ∷ write 3 unordered 2 (3 ∷ []) ∷ read 3 unordered 2 (3 ∷ []) ∷ write 4 unordered 3 (4 ∷ []) ∷ read 4 unordered 3 (4 ∷ []) ∷ write 5 unordered 4 (5 ∷ []) ∷ read 5 unordered 4 (5 ∷ []) ∷ write 6 unordered 5 (6 ∷ []) ∷ read 6 unordered 5 (6 ∷ []) ∷ write 7 unordered 6 (7 ∷ []) ∷ read 7 unordered 6 (7 ∷ []) ∷ write 8 unordered 7 (8 ∷ []) ∷ read 8 unordered 7 (8 ∷ []) ∷ row 2 0 1 ∷ row 4 1 3 ∷ row 6 2 5 ∷ row 8 3 7 ∷ row 10 4 9 ∷ row 12 5 11 ∷ row 14 6 13 ∷ row 16 7 15 ∷ [])) (Refused 12 0) []
-    -- 16a-sixteen-others, lent a scratch of 8191 and an order buffer of 16
-    ∷ lending 8191 16 (sheet (head 8 8 ∷ init 0 (replicate 8 0) ∷ write 1 unordered 0 (1 ∷ []) ∷ read 1 unordered 0 (1 ∷ []) ∷ write 2 unordered 1 (2 ∷ []) ∷ read 2 unordered 1 (2 ∷ []) ∷ write 3 unordered 2 (3 ∷ []) ∷ read 3 unordered 2 (3 ∷ []) ∷ write 4 unordered 3 (4 ∷ []) ∷ read 4 unordered 3 (4 ∷ []) ∷ write 5 unordered 4 (5 ∷ []) ∷ read 5 unordered 4 (5 ∷ []) ∷ write 6 unordered 5 (6 ∷ []) ∷ read 6 unordered 5 (6 ∷ []) ∷ write 7 unordered 6 (7 ∷ []) ∷ read 7 unordered 6 (7 ∷ []) ∷ write 8 unordered 7 (8 ∷ []) ∷ read 8 unordered 7 (8 ∷ []) ∷ row 2 0 1 ∷ row 4 1 3 ∷ row 6 2 5 ∷ row 8 3 7 ∷ row 10 4 9 ∷ row 12 5 11 ∷ row 14 6 13 ∷ row 16 7 15 ∷ [])) (Refused 12 0) []
-    -- 16a-sixteen-others, lent a scratch of 8192 and an order buffer of 16
-    ∷ lending 8192 16 (sheet (head 8 8 ∷ init 0 (replicate 8 0) ∷ write 1 unordered 0 (1 ∷ []) ∷ read 1 unordered 0 (1 ∷ []) ∷ write 2 unordered 1 (2 ∷ []) ∷ read 2 unordered 1 (2 ∷ []) ∷ write 3 unordered 2 (3 ∷ []) ∷ read 3 unordered 2 (3 ∷ []) ∷ write 4 unordered 3 (4 ∷ []) ∷ read 4 unordered 3 (4 ∷ []) ∷ write 5 unordered 4 (5 ∷ []) ∷ read 5 unordered 4 (5 ∷ []) ∷ write 6 unordered 5 (6 ∷ []) ∷ read 6 unordered 5 (6 ∷ []) ∷ write 7 unordered 6 (7 ∷ []) ∷ read 7 unordered 6 (7 ∷ []) ∷ write 8 unordered 7 (8 ∷ []) ∷ read 8 unordered 7 (8 ∷ []) ∷ row 2 0 1 ∷ row 4 1 3 ∷ row 6 2 5 ∷ row 8 3 7 ∷ row 10 4 9 ∷ row 12 5 11 ∷ row 14 6 13 ∷ row 16 7 15 ∷ [])) (Refused 13 0) []
-    -- 16b-seventeenth-event: 16. (..) a 17th event: refused 9. (16a with a 17th event: head 6 bytes, init 16, sixteen events of 9, so its tag is at 166.)
-    ∷ judged (sheet (head 8 8 ∷ init 0 (replicate 8 0) ∷ write 1 unordered 0 (1 ∷ []) ∷ read 1 unordered 0 (1 ∷ []) ∷ write 2 unordered 1 (2 ∷ []) ∷ read 2 unordered 1 (2 ∷ []) ∷ write 3 unordered 2 (3 ∷ []) ∷ read 3 unordered 2 (3 ∷ []) ∷ write 4 unordered 3 (4 ∷ []) ∷ read 4 unordered 3 (4 ∷ []) ∷ write 5 unordered 4 (5 ∷ []) ∷ read 5 unordered 4 (5 ∷ []) ∷ write 6 unordered 5 (6 ∷ []) ∷ read 6 unordered 5 (6 ∷ []) ∷ write 7 unordered 6 (7 ∷ []) ∷ read 7 unordered 6 (7 ∷ []) ∷ write 8 unordered 7 (8 ∷ []) ∷ read 8 unordered 7 (8 ∷ []) ∷ write 8 unordered 7 (9 ∷ []) ∷ row 2 0 1 ∷ row 4 1 3 ∷ row 6 2 5 ∷ row 8 3 7 ∷ row 10 4 9 ∷ row 12 5 11 ∷ row 14 6 13 ∷ row 16 7 15 ∷ [])) (Refused 9 166) []
+    -- 16a-eighteen-others: 16, as 02 §6 moves it. 18 other events with 32,768 bytes of scratch: judged; with 32,767: refused 12. (Each of eight agents writes its own byte and reads it, the last one twice. The program always lends 32,768 bytes; 32,767 are tried by the harness's tests.)
+    ∷ judged (sheet (head 8 8 ∷ init 0 (replicate 8 0) ∷ write 1 unordered 0 (1 ∷ []) ∷ read 1 unordered 0 (1 ∷ []) ∷ write 2 unordered 1 (2 ∷ []) ∷ read 2 unordered 1 (2 ∷ []) ∷ write 3 unordered 2 (3 ∷ []) ∷ read 3 unordered 2 (3 ∷ []) ∷ write 4 unordered 3 (4 ∷ []) ∷ read 4 unordered 3 (4 ∷ []) ∷ write 5 unordered 4 (5 ∷ []) ∷ read 5 unordered 4 (5 ∷ []) ∷ write 6 unordered 5 (6 ∷ []) ∷ read 6 unordered 5 (6 ∷ []) ∷ write 7 unordered 6 (7 ∷ []) ∷ read 7 unordered 6 (7 ∷ []) ∷ write 8 unordered 7 (8 ∷ []) ∷ read 8 unordered 7 (8 ∷ []) ∷ write 8 unordered 7 (9 ∷ []) ∷ read 8 unordered 7 (9 ∷ []) ∷ row 2 0 1 ∷ row 4 1 3 ∷ row 6 2 5 ∷ row 8 3 7 ∷ row 10 4 9 ∷ row 12 5 11 ∷ row 14 6 13 ∷ row 16 7 15 ∷ row 18 7 17 ∷ [])) (Consistent Orderly) (0 ∷ 1 ∷ 2 ∷ 3 ∷ 4 ∷ 5 ∷ 6 ∷ 7 ∷ 8 ∷ 9 ∷ 10 ∷ 11 ∷ 12 ∷ 13 ∷ 14 ∷ 15 ∷ 16 ∷ 17 ∷ 18 ∷ [])
+    -- 16a-eighteen-others, lent a scratch of 32767 and an order buffer of 22
+    ∷ lending 32767 22 (sheet (head 8 8 ∷ init 0 (replicate 8 0) ∷ write 1 unordered 0 (1 ∷ []) ∷ read 1 unordered 0 (1 ∷ []) ∷ write 2 unordered 1 (2 ∷ []) ∷ read 2 unordered 1 (2 ∷ []) ∷ write 3 unordered 2 (3 ∷ []) ∷ read 3 unordered 2 (3 ∷ []) ∷ write 4 unordered 3 (4 ∷ []) ∷ read 4 unordered 3 (4 ∷ []) ∷ write 5 unordered 4 (5 ∷ []) ∷ read 5 unordered 4 (5 ∷ []) ∷ write 6 unordered 5 (6 ∷ []) ∷ read 6 unordered 5 (6 ∷ []) ∷ write 7 unordered 6 (7 ∷ []) ∷ read 7 unordered 6 (7 ∷ []) ∷ write 8 unordered 7 (8 ∷ []) ∷ read 8 unordered 7 (8 ∷ []) ∷ write 8 unordered 7 (9 ∷ []) ∷ read 8 unordered 7 (9 ∷ []) ∷ row 2 0 1 ∷ row 4 1 3 ∷ row 6 2 5 ∷ row 8 3 7 ∷ row 10 4 9 ∷ row 12 5 11 ∷ row 14 6 13 ∷ row 16 7 15 ∷ row 18 7 17 ∷ [])) (Refused 12 0) []
+    -- 16a-eighteen-others, lent a scratch of 32767 and an order buffer of 18
+    ∷ lending 32767 18 (sheet (head 8 8 ∷ init 0 (replicate 8 0) ∷ write 1 unordered 0 (1 ∷ []) ∷ read 1 unordered 0 (1 ∷ []) ∷ write 2 unordered 1 (2 ∷ []) ∷ read 2 unordered 1 (2 ∷ []) ∷ write 3 unordered 2 (3 ∷ []) ∷ read 3 unordered 2 (3 ∷ []) ∷ write 4 unordered 3 (4 ∷ []) ∷ read 4 unordered 3 (4 ∷ []) ∷ write 5 unordered 4 (5 ∷ []) ∷ read 5 unordered 4 (5 ∷ []) ∷ write 6 unordered 5 (6 ∷ []) ∷ read 6 unordered 5 (6 ∷ []) ∷ write 7 unordered 6 (7 ∷ []) ∷ read 7 unordered 6 (7 ∷ []) ∷ write 8 unordered 7 (8 ∷ []) ∷ read 8 unordered 7 (8 ∷ []) ∷ write 8 unordered 7 (9 ∷ []) ∷ read 8 unordered 7 (9 ∷ []) ∷ row 2 0 1 ∷ row 4 1 3 ∷ row 6 2 5 ∷ row 8 3 7 ∷ row 10 4 9 ∷ row 12 5 11 ∷ row 14 6 13 ∷ row 16 7 15 ∷ row 18 7 17 ∷ [])) (Refused 12 0) []
+    -- 16a-eighteen-others, lent a scratch of 32768 and an order buffer of 18
+    ∷ lending 32768 18 (sheet (head 8 8 ∷ init 0 (replicate 8 0) ∷ write 1 unordered 0 (1 ∷ []) ∷ read 1 unordered 0 (1 ∷ []) ∷ write 2 unordered 1 (2 ∷ []) ∷ read 2 unordered 1 (2 ∷ []) ∷ write 3 unordered 2 (3 ∷ []) ∷ read 3 unordered 2 (3 ∷ []) ∷ write 4 unordered 3 (4 ∷ []) ∷ read 4 unordered 3 (4 ∷ []) ∷ write 5 unordered 4 (5 ∷ []) ∷ read 5 unordered 4 (5 ∷ []) ∷ write 6 unordered 5 (6 ∷ []) ∷ read 6 unordered 5 (6 ∷ []) ∷ write 7 unordered 6 (7 ∷ []) ∷ read 7 unordered 6 (7 ∷ []) ∷ write 8 unordered 7 (8 ∷ []) ∷ read 8 unordered 7 (8 ∷ []) ∷ write 8 unordered 7 (9 ∷ []) ∷ read 8 unordered 7 (9 ∷ []) ∷ row 2 0 1 ∷ row 4 1 3 ∷ row 6 2 5 ∷ row 8 3 7 ∷ row 10 4 9 ∷ row 12 5 11 ∷ row 14 6 13 ∷ row 16 7 15 ∷ row 18 7 17 ∷ [])) (Refused 13 0) []
+    -- 16b-nineteenth-event: 16. (..) a 19th event: refused 9. (16a with a 19th event: head 6 bytes, init 16, eighteen events of 9, so its tag is at 184.)
+    ∷ judged (sheet (head 8 8 ∷ init 0 (replicate 8 0) ∷ write 1 unordered 0 (1 ∷ []) ∷ read 1 unordered 0 (1 ∷ []) ∷ write 2 unordered 1 (2 ∷ []) ∷ read 2 unordered 1 (2 ∷ []) ∷ write 3 unordered 2 (3 ∷ []) ∷ read 3 unordered 2 (3 ∷ []) ∷ write 4 unordered 3 (4 ∷ []) ∷ read 4 unordered 3 (4 ∷ []) ∷ write 5 unordered 4 (5 ∷ []) ∷ read 5 unordered 4 (5 ∷ []) ∷ write 6 unordered 5 (6 ∷ []) ∷ read 6 unordered 5 (6 ∷ []) ∷ write 7 unordered 6 (7 ∷ []) ∷ read 7 unordered 6 (7 ∷ []) ∷ write 8 unordered 7 (8 ∷ []) ∷ read 8 unordered 7 (8 ∷ []) ∷ write 8 unordered 7 (9 ∷ []) ∷ read 8 unordered 7 (9 ∷ []) ∷ write 8 unordered 7 (10 ∷ []) ∷ row 2 0 1 ∷ row 4 1 3 ∷ row 6 2 5 ∷ row 8 3 7 ∷ row 10 4 9 ∷ row 12 5 11 ∷ row 14 6 13 ∷ row 16 7 15 ∷ row 18 7 17 ∷ [])) (Refused 9 184) []
     -- 16c-head-alone: 16. (..) The head alone: refused 10 at 6.
     ∷ judged (sheet (head 1 1 ∷ [])) (Refused 10 6) []
     -- 16d-agents-8-memory-64: 16. (..) Agents 8 and memory 64 pass (Each agent reads the last byte.)
@@ -157,6 +157,18 @@ further =
     ∷ judged (sheet ((1 ∷ 0 ∷ 3 ∷ 3 ∷ 1 ∷ 1 ∷ []) ∷ [])) (Refused 5 0) []
     -- s4q-read-modify-writes-at-edition-2: 02 §4: litmus 14 at edition 2, with a marker
     ∷ judged (sheet (head-2 2 1 ∷ tear 0 (init 0 (0 ∷ [])) ∷ tear 1 (modify 1 0 (0 ∷ []) (1 ∷ [])) ∷ tear 0 (marker 2) ∷ tear 1 (modify 2 0 (0 ∷ []) (2 ∷ [])) ∷ row 1 0 0 ∷ row 3 0 0 ∷ [])) (Broken 26 Nobody) []
+    -- s6a-twenty-two-events-the-last-first: 02 §6: four inits and 18 others at edition 2: A1 x reads 1 sc, fifteen markers, x reads 1 sc, A2 x=1 sc, which is before them
+    ∷ judged (sheet (head-2 2 4 ∷ tear 0 (init 0 (0 ∷ [])) ∷ tear 0 (init 1 (0 ∷ [])) ∷ tear 0 (init 2 (0 ∷ [])) ∷ tear 0 (init 3 (0 ∷ [])) ∷ tear 1 (read 1 sc 0 (1 ∷ [])) ∷ tear 0 (marker 1) ∷ tear 0 (marker 1) ∷ tear 0 (marker 1) ∷ tear 0 (marker 1) ∷ tear 0 (marker 1) ∷ tear 0 (marker 1) ∷ tear 0 (marker 1) ∷ tear 0 (marker 1) ∷ tear 0 (marker 1) ∷ tear 0 (marker 1) ∷ tear 0 (marker 1) ∷ tear 0 (marker 1) ∷ tear 0 (marker 1) ∷ tear 0 (marker 1) ∷ tear 0 (marker 1) ∷ tear 1 (read 1 sc 0 (1 ∷ [])) ∷ tear 1 (write 2 sc 0 (1 ∷ [])) ∷ row 4 0 21 ∷ row 20 0 21 ∷ [])) (Consistent Orderly) (0 ∷ 1 ∷ 2 ∷ 3 ∷ 21 ∷ 4 ∷ 5 ∷ 6 ∷ 7 ∷ 8 ∷ 9 ∷ 10 ∷ 11 ∷ 12 ∷ 13 ∷ 14 ∷ 15 ∷ 16 ∷ 17 ∷ 18 ∷ 19 ∷ 20 ∷ [])
+    -- s6a-twenty-two-events-the-last-first, lent a scratch of 32767 and an order buffer of 22
+    ∷ lending 32767 22 (sheet (head-2 2 4 ∷ tear 0 (init 0 (0 ∷ [])) ∷ tear 0 (init 1 (0 ∷ [])) ∷ tear 0 (init 2 (0 ∷ [])) ∷ tear 0 (init 3 (0 ∷ [])) ∷ tear 1 (read 1 sc 0 (1 ∷ [])) ∷ tear 0 (marker 1) ∷ tear 0 (marker 1) ∷ tear 0 (marker 1) ∷ tear 0 (marker 1) ∷ tear 0 (marker 1) ∷ tear 0 (marker 1) ∷ tear 0 (marker 1) ∷ tear 0 (marker 1) ∷ tear 0 (marker 1) ∷ tear 0 (marker 1) ∷ tear 0 (marker 1) ∷ tear 0 (marker 1) ∷ tear 0 (marker 1) ∷ tear 0 (marker 1) ∷ tear 0 (marker 1) ∷ tear 1 (read 1 sc 0 (1 ∷ [])) ∷ tear 1 (write 2 sc 0 (1 ∷ [])) ∷ row 4 0 21 ∷ row 20 0 21 ∷ [])) (Refused 12 0) []
+    -- s6a-twenty-two-events-the-last-first, lent a scratch of 32768 and an order buffer of 21
+    ∷ lending 32768 21 (sheet (head-2 2 4 ∷ tear 0 (init 0 (0 ∷ [])) ∷ tear 0 (init 1 (0 ∷ [])) ∷ tear 0 (init 2 (0 ∷ [])) ∷ tear 0 (init 3 (0 ∷ [])) ∷ tear 1 (read 1 sc 0 (1 ∷ [])) ∷ tear 0 (marker 1) ∷ tear 0 (marker 1) ∷ tear 0 (marker 1) ∷ tear 0 (marker 1) ∷ tear 0 (marker 1) ∷ tear 0 (marker 1) ∷ tear 0 (marker 1) ∷ tear 0 (marker 1) ∷ tear 0 (marker 1) ∷ tear 0 (marker 1) ∷ tear 0 (marker 1) ∷ tear 0 (marker 1) ∷ tear 0 (marker 1) ∷ tear 0 (marker 1) ∷ tear 0 (marker 1) ∷ tear 1 (read 1 sc 0 (1 ∷ [])) ∷ tear 1 (write 2 sc 0 (1 ∷ [])) ∷ row 4 0 21 ∷ row 20 0 21 ∷ [])) (Refused 13 0) []
+    -- s6b-no-order-of-eighteen: 02 §6: litmus 7 behind fourteen markers of A1: A1 x=1 sc, y reads 0 sc, A2 y=1 sc, x reads 0 sc
+    ∷ judged (sheet (head 2 2 ∷ init 0 (0 ∷ 0 ∷ []) ∷ marker 1 ∷ marker 1 ∷ marker 1 ∷ marker 1 ∷ marker 1 ∷ marker 1 ∷ marker 1 ∷ marker 1 ∷ marker 1 ∷ marker 1 ∷ marker 1 ∷ marker 1 ∷ marker 1 ∷ marker 1 ∷ write 1 sc 0 (1 ∷ []) ∷ read 1 sc 1 (0 ∷ []) ∷ write 2 sc 1 (1 ∷ []) ∷ read 2 sc 0 (0 ∷ []) ∷ row 16 1 0 ∷ row 18 0 0 ∷ [])) (Broken 26 Nobody) []
+    -- s6c-a-nineteenth-event-behind-four-inits: 02 §6: refusal 9 comes at the 19th: head 6 bytes, four inits of 9, eighteen markers of 8, so at 186
+    ∷ judged (sheet (head 1 4 ∷ init 0 (0 ∷ []) ∷ init 1 (0 ∷ []) ∷ init 2 (0 ∷ []) ∷ init 3 (0 ∷ []) ∷ marker 1 ∷ marker 1 ∷ marker 1 ∷ marker 1 ∷ marker 1 ∷ marker 1 ∷ marker 1 ∷ marker 1 ∷ marker 1 ∷ marker 1 ∷ marker 1 ∷ marker 1 ∷ marker 1 ∷ marker 1 ∷ marker 1 ∷ marker 1 ∷ marker 1 ∷ marker 1 ∷ marker 1 ∷ [])) (Refused 9 186) []
+    -- s6d-a-nineteenth-event-of-bad-content: 02 §6: 6 before 9: the 19th event is a read of agent 2, whom the head does not promise
+    ∷ judged (sheet (head 1 1 ∷ init 0 (0 ∷ []) ∷ marker 1 ∷ marker 1 ∷ marker 1 ∷ marker 1 ∷ marker 1 ∷ marker 1 ∷ marker 1 ∷ marker 1 ∷ marker 1 ∷ marker 1 ∷ marker 1 ∷ marker 1 ∷ marker 1 ∷ marker 1 ∷ marker 1 ∷ marker 1 ∷ marker 1 ∷ marker 1 ∷ read 2 sc 0 (0 ∷ []) ∷ [])) (Refused 6 159) []
     -- 01-example, lent a scratch of 1 and an order buffer of 2
     ∷ lending 1 2 example (Consistent Orderly) (0 ∷ 1 ∷ [])
     -- 01-example, lent a scratch of 0 and an order buffer of 2

@@ -72,9 +72,9 @@ pub record Entry : Type 0 where
 abbrev pub lending : ℕ → ℕ → List ℕ → Answer → List ℕ → Entry
 lending room places s a o = record { room = room; places = places; sheet = s; answer = a; order = o }
 
--- with 8,192 bytes of scratch and an order buffer for the 20 events that there can be, as the program lends
+-- with 32,768 bytes of scratch and an order buffer for the 22 events that there can be, as the program lends
 abbrev pub judged : List ℕ → Answer → List ℕ → Entry
-judged s a o = lending 8192 20 s a o
+judged s a o = lending 32768 22 s a o
 
 -- 01: "Whole example, 30 bytes in hexadecimal: 01 00 03 01 01 01, 02 00 06 00 02 00 00 01 00, 02 00 06 01 01 01 00 01 00, 03 00 03 01 00 00."
 abbrev pub example : List ℕ

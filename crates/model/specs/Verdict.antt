@@ -26,7 +26,7 @@ use Rattle.model.specs.Order.{problem}
 use Rattle.model.specs.Unsettled.{unsettledPair}
 use Rattle.model.specs.Judged.{Breaks, settledOf}
 
--- 01: "So n = 16 needs 8,192 bytes."
+-- 01: "So n = 16 needs 8,192 bytes."; 02 §6: "the largest scratch is 32,768 bytes"
 abbrev pub maxScratch : ℕ
 maxScratch = bytesFor maxOthers
 

@@ -143,8 +143,9 @@ examples =
     -- an event outside the memory and without its data, a fifth init that overlaps: the content before length and count
     ∷ of (head 1 1 ++ (2 ∷ 0 ∷ 5 ∷ 1 ∷ 1 ∷ 1 ∷ 1 ∷ 1 ∷ [])) (refused 6 6)
     ∷ of (head 1 5 ++ init 0 ++ init 1 ++ init 2 ++ init 3 ++ init 0) (refused 6 42)
-    -- a 17th other event
-    ∷ of (head 1 1 ++ eight 1 ++ eight 1 ++ marker 1) (refused 9 134)
+    -- 18 other events; a 19th
+    ∷ of (head 1 1 ++ eight 1 ++ eight 1 ++ marker 1 ++ marker 1) (refused 10 150)
+    ∷ of (head 1 1 ++ eight 1 ++ eight 1 ++ marker 1 ++ marker 1 ++ marker 1) (refused 9 150)
     -- pairs rise by their first marker; 32 of them; a 33rd; a 33rd of one agent: the content before the count
     ∷ of (head 2 1 ++ marker 1 ++ marker 1 ++ marker 2 ++ marker 2 ++ pair 0 3 ++ pair 1 2) (refused 10 48)
     ∷ of (head 2 1 ++ eight 1 ++ eight 2 ++ pairs 0 ++ pairs 1 ++ pairs 2 ++ pairs 3) (refused 10 294)

@@ -89,7 +89,7 @@ pub record WellFormed (x : Execution) : Type 0 where
   pub inits-apart : (e d : ℕ) → e < d → d < length (x .events) → T (isInit (event x d))
       → (a : Access) → List·Memᴰ a (event x d .accesses) → T (meets (a .shape) (event x e)) → ⊥
   pub inits-few : inits (x .events) ≤ maxInits
-  -- "at most 16 together, markers included"
+  -- "at most 16 together, markers included"; 02 §6: "from 16 to 18"
   pub others-few : others (x .events) ≤ maxOthers
   -- "the reader reads and covers the address; the writer writes and covers it; they differ"
   pub row-reads : (j : ℕ) → j < length (x .rows) → T (readsAt (event x (row x j .reader)) (row x j .address))

@@ -64,7 +64,7 @@ pub data Blames (s : List ℕ) (k : ℕ) : ℕ → Type 0 where
   of-event : tagNo s k ≡ 2 → eventFits (soFar s k .head) (soFar s k .events) (agentOf (valueNo s k)) (shapeOf (soFar s k .head .edition) (valueNo s k)) ≡ false → Blames s k 6
   of-row : tagNo s k ≡ 3 → rowFits (soFar s k .events) (soFar s k .rows) (rowOf (soFar s k .head .edition) (valueNo s k)) ≡ false → Blames s k 7
   of-pair : tagNo s k ≡ 4 → pairFits (soFar s k .events) (soFar s k .pairs) (pairOf (valueNo s k)) ≡ false → Blames s k 8
-  -- "9 fifth init, 17th other event, 33rd pair"
+  -- "9 fifth init, 17th other event, 33rd pair"; 02 §6: "refusal 9 comes at the 19th"
   one-init-more : tagNo s k ≡ 2 → agentOf (valueNo s k) ≡ 0 → maxInits ≤ inits (soFar s k .events) → Blames s k 9
   one-other-more : tagNo s k ≡ 2 → (agentOf (valueNo s k) ≡ 0 → ⊥) → maxOthers ≤ others (soFar s k .events) → Blames s k 9
   one-pair-more : tagNo s k ≡ 4 → maxPairs ≤ length (soFar s k .pairs) → Blames s k 9

@@ -282,7 +282,7 @@ mod tests {
     fn random_pictures() {
         let mut drawn = BTreeMap::new();
         for index in 0..4000 {
-            let case = second::random::list_case(16, index, 16);
+            let case = second::random::list_case(16, index, second::sheet::MAX_OTHERS);
             let Ok(table) = Table::of(&case.sheet) else { continue };
             let n = table.events.len();
             let list = List::of_bytes(&case.list);

@@ -601,17 +601,18 @@ pub mod tests {
         }
     }
 
-    /// As much as a sheet can hold: 16 events of 8 agents, 32 pairs, 8 writers for one read.
+    /// As much as a sheet can hold: 4 inits, 18 events of 8 agents, 32 pairs, 8 writers for one read.
     #[test]
     fn the_fullest() {
         let mut table = Table { head: Head { edition: 2, agents: 8, memory: 64 }, ..Table::default() };
         table.events = (0..4).map(|i| Event::init(16 * i, &[0; 16])).collect();
         table.events.extend((0..7).map(|i| Event::write(i + 1, mode::UNORDERED, i, &[i])));
         table.events.push(Event::read(8, mode::UNORDERED, 0, &[0, 1, 2, 3, 4, 5, 6, 0]).may_tear());
-        table.events.extend((1..=8).map(Event::marker));
+        table.events.extend((1..=8).chain(1..=2).map(Event::marker));
         table.rows = (0..8).map(|a| Row { reader: 11, address: a, writer: if a < 7 { 4 + a } else { 0 } }).collect();
-        let all = (12..20).flat_map(|first| (12..20).map(move |second| Pair { first, second }));
-        table.pairs = all.filter(|pair| pair.first < pair.second).collect();
+        let all = (12..22).flat_map(|first| (first + 1..22).map(move |second| Pair { first, second }));
+        table.pairs = all.filter(|pair| pair.second - pair.first != 8).take(32).collect();
+        assert_eq!((table.events.len(), table.pairs.len()), (22, 32));
         check_picture(&table, &judge(&table.sheet().unwrap()), "the fullest");
     }
 
@@ -633,7 +634,7 @@ pub mod tests {
     fn random_pictures() {
         let mut drawn = 0;
         for index in 0..3000 {
-            let case = second::random::case(1515, index, 16);
+            let case = second::random::case(1515, index, second::sheet::MAX_OTHERS);
             if let Ok(table) = Table::of(&case.sheet) {
                 check_picture(&table, &judge(&case.sheet), &case.name);
                 drawn += 1;

@@ -319,9 +319,9 @@ pub mod tests {
     #[test]
     fn all_to_all() {
         let boxes: Vec<WantedBox> =
-            (0..20).map(|i| WantedBox { column: i * 7 % 9, width: 100 + i as i32, height: 30 }).collect();
+            (0..22).map(|i| WantedBox { column: i * 7 % 9, width: 100 + i as i32, height: 30 }).collect();
         let lines =
-            (0..20).flat_map(|from| (0..20).filter(move |&to| to != from).map(move |to| WantedLine { from, to }));
+            (0..22).flat_map(|from| (0..22).filter(move |&to| to != from).map(move |to| WantedLine { from, to }));
         let wanted = Wanted { columns: 9, boxes, lines: lines.collect() };
         check(&Layout::of(&wanted, 50, 20), &wanted);
     }

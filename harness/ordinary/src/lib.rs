@@ -14,7 +14,7 @@ pub use check::check;
 /// The head's limits and the sheet's, as document 01 gives them.
 const MAX_SHEET: usize = 4096;
 const MAX_INITS: usize = 4;
-const MAX_OTHERS: usize = 16;
+const MAX_OTHERS: usize = 18;
 const MAX_PAIRS: usize = 32;
 /// Slots of a table over events: as many as a mask has bits.
 const SLOTS: usize = 32;

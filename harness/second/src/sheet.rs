@@ -5,8 +5,8 @@
 pub const MAX_SHEET: usize = 4096;
 /// "At most 4" inits.
 pub const MAX_INITS: usize = 4;
-/// "at most 16 together, markers included."
-pub const MAX_OTHERS: usize = 16;
+/// "at most 16 together, markers included." 02 §6: "Raise the count of events that are not inits from 16 to 18".
+pub const MAX_OTHERS: usize = 18;
 /// Pairs: "at most 32."
 pub const MAX_PAIRS: usize = 32;
 /// The most events there can be, hence the longest order.
@@ -271,7 +271,7 @@ fn event(x: &mut Execution, value: &[u8], place: usize) -> Result<(), u8> {
     if data.len() != exact {
         return Err(4);
     }
-    // "fifth init, 17th other event"
+    // "fifth init, 17th other event"; 02 §6: "refusal 9 comes at the 19th"
     let (inits, others) = (x.inits(), x.others());
     if (mode == Mode::Init && inits == MAX_INITS) || (mode != Mode::Init && others == MAX_OTHERS) {
         return Err(9);

@@ -2,7 +2,7 @@
 
 use second::judge::{next_order, Relations};
 use second::random::{case, damaged, shown, whole, Rng, SHOWN, WAYS};
-use second::sheet::{MAX_EVENTS, MAX_SCRATCH};
+use second::sheet::{MAX_EVENTS, MAX_OTHERS, MAX_SCRATCH};
 use second::text::{from_text, hex, to_text};
 use second::{judge, judge_into, needed_scratch, read, Answer, Row};
 use std::collections::BTreeMap;
@@ -43,11 +43,14 @@ fn both_buffers() {
 #[test]
 fn scratch_needed() {
     let mut rng = Rng::new(3);
+    let mut seen = [false; MAX_OTHERS + 1];
     for _ in 0..2000 {
-        let x = read(&second::random::bytes(&whole(&mut rng, 16).1)).unwrap();
-        let needed = [1, 1, 1, 1, 2, 4, 8, 16, 32, 64, 128, 256, 512, 1024, 2048, 4096, 8192][x.others()];
-        assert_eq!(needed_scratch(&x), needed);
+        let x = read(&second::random::bytes(&whole(&mut rng, MAX_OTHERS).1)).unwrap();
+        let by_hand = [1, 1, 1, 1, 2, 4, 8, 16, 32, 64, 128, 256, 512, 1024, 2048, 4096, 8192, 16384, 32768];
+        assert_eq!(needed_scratch(&x), by_hand[x.others()]);
+        seen[x.others()] = true;
     }
+    assert!(seen[1..].iter().all(|&seen| seen), "{seen:?}");
 }
 
 #[test]
@@ -67,7 +70,7 @@ fn every_way_earns_its_number() {
     for way in WAYS {
         for i in 0..200 {
             let (sheet, place) =
-                damaged(&mut rng, way, [4, 6, 16][i % 3]).unwrap_or_else(|| panic!("{}: never made", way.name));
+                damaged(&mut rng, way, [4, 6, MAX_OTHERS][i % 3]).unwrap_or_else(|| panic!("{}: never made", way.name));
             let found = read(&sheet).err();
             assert_eq!(found, Some((way.number, place)), "{}\n{}", way.name, to_text(&sheet));
         }
@@ -115,7 +118,7 @@ fn prefixes_against_all_orders() {
 #[test]
 fn reported_orders_meet_the_rules() {
     for index in 0..20_000 {
-        let c = case(4, index, 16);
+        let c = case(4, index, MAX_OTHERS);
         if let Answer::Consistent { order, .. } = judge(&c.sheet, MAX_SCRATCH, MAX_EVENTS) {
             let x = read(&c.sheet).unwrap();
             let order: Vec<usize> = order.iter().map(|&e| e as usize).collect();
@@ -360,9 +363,9 @@ fn the_litmus_table() {
     }
     let first = std::fs::read(format!("{dir}/../first.sheet")).unwrap();
     assert_eq!(first, EXAMPLE);
-    // 16: with 8,191 bytes of scratch
-    let sixteen = entries.iter().find(|e| e.name == "16a-sixteen-others").unwrap();
-    assert_eq!(judge(&sixteen.sheet, 8191, 20).line(), "refused 12 at 0");
+    // 16, as 02 §6 has it: with 32,767 bytes of scratch
+    let eighteen = entries.iter().find(|e| e.name == "16a-eighteen-others").unwrap();
+    assert_eq!(judge(&eighteen.sheet, 32767, 22).line(), "refused 12 at 0");
 }
 
 /// Random sheets where one of (a), (b), (c) alone changes the answer: without them that reason would be untried.

@@ -2,6 +2,7 @@
 
 use second::random::{bytes, case, table_buffers, table_case, table_damaged, table_ways, whole, Rng};
 use second::read;
+use second::sheet::MAX_OTHERS;
 use second::table::{lists, table, write, Lent, Tabled, Written};
 use second::text::from_hex;
 
@@ -84,10 +85,11 @@ fn every_number() {
     // 7, 8
     refused(lent(&HEAD, &EVENTS, &DATA, &[1, 0, 0, 1, 0, 0], &[]), 7, 1);
     refused(lent(&HEAD, &EVENTS, &DATA, &ROWS, &[0, 1]), 8, 0);
-    // 9: the fifth init, the 17th other event, the 33rd pair
+    // 9: the fifth init, the 19th other event, the 33rd pair
     let inits: Vec<u8> = (0..5).flat_map(|start| [0, 2, 0, start, 1, 0, 0, 1]).collect();
     refused(lent(&[1, 1, 8], &inits, &[0; 5], &[], &[]), 9, 4);
-    refused(lent(&HEAD, &[&EVENTS[..8], &marker.repeat(17)].concat(), &[0], &[], &[]), 9, 17);
+    refused(lent(&HEAD, &[&EVENTS[..8], &marker.repeat(19)].concat(), &[0], &[], &[]), 9, 19);
+    refused(lent(&HEAD, &[&EVENTS[..8], &marker.repeat(18)].concat(), &[0], &[], &[]), 10, 0);
     let two: Vec<u8> = (0..16).flat_map(|i| [1 + i % 2, 4, 2, 0, 0, 0, 0, 0]).collect();
     let all: Vec<u8> =
         (0..16).flat_map(|a| (0..16).filter(move |b| a % 2 != b % 2).flat_map(move |b| [a, b])).collect();
@@ -198,7 +200,7 @@ fn every_way_earns_its_number() {
     for way in table_ways() {
         let mut made = 0;
         for i in 0..400 {
-            let Some((c, index)) = table_damaged(&mut rng, way, [4, 6, 16][i % 3]) else { continue };
+            let Some((c, index)) = table_damaged(&mut rng, way, [4, 6, MAX_OTHERS][i % 3]) else { continue };
             let found = write(of(&c.lists), &mut vec![0; c.out]);
             assert_eq!(found, Written::Refused { number: way.number, index }, "{}\n{:?}", way.name, c.lists);
             made += 1;
@@ -216,7 +218,7 @@ fn every_way_earns_its_number() {
 fn there_and_back() {
     let mut rng = Rng::new(13);
     for _ in 0..5000 {
-        let sheet = bytes(&whole(&mut rng, 16).1);
+        let sheet = bytes(&whole(&mut rng, MAX_OTHERS).1);
         let l = lists(&sheet).unwrap();
         let mut out = vec![9; sheet.len() + 3];
         assert_eq!(write(of(&l), &mut out), Written::Written { length: sheet.len() });

@@ -1,7 +1,7 @@
 //! The linked judge against the second program: answer, order, both buffers and the bytes around them.
 
 use plimdrong::{judge_with, Answer};
-use second::random::{case, shown, Case, SHOWN};
+use second::random::{case, mostly_few, shown, shown_most, Case, SHOWN, SHOWN_MOST};
 use second::text::to_text;
 use std::collections::BTreeMap;
 use std::fmt;
@@ -13,23 +13,23 @@ pub struct Tally {
     broken: [[u64; 3]; 6],
     orderly: [u64; 3],
     unsettled: [u64; 3],
-    /// What the sheets showed of 02 §4.
+    /// What the sheets showed of 02 §4 and §6.
     shown: BTreeMap<&'static str, u64>,
 }
 
 impl Tally {
-    fn count(&mut self, sheet: &[u8], answer: &second::Answer) {
+    fn count(&mut self, c: &Case, answer: &second::Answer) {
         let times = match answer {
             second::Answer::Refused { number, .. } => &mut self.refused[*number as usize],
             second::Answer::Broken { number, .. } => &mut self.broken[*number as usize - 21],
             second::Answer::Consistent { pair: None, .. } => &mut self.orderly,
             second::Answer::Consistent { pair: Some(_), .. } => &mut self.unsettled,
         };
-        match sheet {
+        match &c.sheet[..] {
             [1, 0, 3, edition @ 1..=2, ..] => times[*edition as usize - 1] += 1,
             _ => times[2] += 1,
         }
-        for what in shown(sheet, answer) {
+        for what in shown(&c.sheet, answer).into_iter().chain(shown_most(c, answer)) {
             *self.shown.entry(what).or_default() += 1;
         }
     }
@@ -41,13 +41,13 @@ impl Tally {
         refused.chain(broken).chain(consistent.map(|(name, times)| (name.to_string(), times))).collect()
     }
 
-    /// The answers that never came at an edition, and what was never shown of 02 §4.
+    /// The answers that never came at an edition, and what was never shown of 02 §4 and §6.
     pub fn missing(&self) -> Vec<String> {
         let all = self.all();
         let of = |e: usize| {
             all.iter().filter(move |(_, times)| times[e - 1] == 0).map(move |(n, _)| format!("{n} at edition {e}"))
         };
-        let unshown = SHOWN.iter().filter(|what| !self.shown.contains_key(**what)).map(|what| what.to_string());
+        let unshown = SHOWN.iter().chain(SHOWN_MOST).filter(|what| !self.shown.contains_key(**what)).map(|what| what.to_string());
         of(1).chain(of(2)).chain(unshown).collect()
     }
 }
@@ -58,7 +58,7 @@ impl fmt::Display for Tally {
         for (name, [one, two, neither]) in self.all() {
             writeln!(f, "{name:<21}{one:>10}{two:>10}{neither:>10}")?;
         }
-        SHOWN.iter().try_for_each(|what| writeln!(f, "{what:<41}{:>10}", self.shown.get(what).unwrap_or(&0)))
+        SHOWN.iter().chain(SHOWN_MOST).try_for_each(|what| writeln!(f, "{what:<41}{:>10}", self.shown.get(what).unwrap_or(&0)))
     }
 }
 
@@ -66,14 +66,14 @@ impl fmt::Display for Tally {
 const AROUND: usize = 32;
 
 /// The sheets number 0 to `count` of a seed; the first difference as text. `max`: at most so many events that are not
-/// inits, or, for 0, mostly few and at times up to 16.
+/// inits, or, for 0, mostly few and at times the most.
 pub fn random_sheets(seed: u64, count: u64, max: usize) -> Result<Tally, String> {
     let mut tally = Tally::default();
     let (mut found, mut told) = (Buffers::default(), Buffers::default());
     for index in 0..count {
-        let most = if max > 0 { max } else { [5, 6, 6, 7, 6, 9, 6, 6, 5, 16][index as usize % 10] };
+        let most = if max > 0 { max } else { mostly_few(index) };
         let c = case(seed, index, most);
-        tally.count(&c.sheet, &one(&c, index as u8, &mut found, &mut told)?);
+        tally.count(&c, &one(&c, index as u8, &mut found, &mut told)?);
     }
     Ok(tally)
 }

@@ -2,7 +2,7 @@
 
 use plimdrong::{check_with, judge, Answer, Checked, ListFault, Table};
 use second::judge::Relations;
-use second::random::{list_case, shown_list, ListCase, SHOWN_LISTS};
+use second::random::{list_case, mostly_few, shown_list, ListCase, SHOWN_LISTS};
 use second::text::to_text;
 use std::collections::BTreeMap;
 use std::fmt;
@@ -73,11 +73,11 @@ impl fmt::Display for Tally {
 }
 
 /// The sheets and lists number 0 to `count` of a seed; the first difference as text. `max`: at most so many events that are
-/// not inits, or, for 0, mostly few and at times up to 16.
+/// not inits, or, for 0, mostly few and at times the most.
 pub fn random_lists(seed: u64, count: u64, max: usize) -> Result<Tally, String> {
     let mut tally = Tally::default();
     for index in 0..count {
-        let most = if max > 0 { max } else { [5, 6, 6, 7, 6, 9, 6, 6, 5, 16][index as usize % 10] };
+        let most = if max > 0 { max } else { mostly_few(index) };
         let c = list_case(seed, index, most);
         let expected = second::check(&c.sheet, &c.list);
         one(&c, &expected, &mut tally).map_err(|what| {

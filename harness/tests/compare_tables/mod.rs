@@ -2,7 +2,9 @@
 //! crate makes of the same table.
 
 use plimdrong::{table_with, write_with, Buffers, Entry, Event, Head, Pair, Row, Slices, Table};
-use second::random::{case, shown_back, shown_written, table_buffers, table_case, Rng, SHOWN_BACK, SHOWN_WRITTEN};
+use second::random::{
+    case, mostly_few, shown_back, shown_written, table_buffers, table_case, Rng, SHOWN_BACK, SHOWN_WRITTEN,
+};
 use second::table::{Lent, Tabled, Written};
 use second::text::to_text;
 use std::collections::BTreeMap;
@@ -95,18 +97,13 @@ impl fmt::Display for Hits {
     }
 }
 
-/// At most so many events that are not inits: mostly few, at times up to 16.
-fn most(index: u64) -> usize {
-    [5, 6, 6, 7, 6, 9, 6, 6, 5, 16][index as usize % 10]
-}
-
 /// Answer and whole buffer, as the second program says; and what the crate makes of the same table.
 pub fn random_tables(seed: u64, count: u64) -> Hits {
     let must = [0, 1, 4, 5, 6, 7, 8, 9, 10, 11, 14, 15].map(|n| (n, 0)).to_vec();
     let mut hits = Hits::new("written", must, SHOWN_WRITTEN);
     let mut rng = Rng::new(seed);
     for index in 0..count {
-        let c = table_case(seed, index, most(index));
+        let c = table_case(seed, index, mostly_few(index));
         let mut told = buffer(&mut rng, c.out);
         let mut found = told.clone();
         let expected = second::table::write(lent(&c.lists), inner(&mut told));
@@ -158,7 +155,7 @@ pub fn tables_of_random_sheets(seed: u64, count: u64) -> Hits {
     let mut hits = Hits::new("table", must, SHOWN_BACK);
     let mut rng = Rng::new(seed);
     for index in 0..count {
-        let c = case(seed, index, most(index));
+        let c = case(seed, index, mostly_few(index));
         let lengths = table_buffers(&mut rng, &c.sheet);
         let mut told = lengths.map(|n| buffer(&mut rng, n));
         let mut found = told.clone();

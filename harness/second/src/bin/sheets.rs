@@ -1,9 +1,9 @@
 //! sheets: random sheets, and sheets kept as text.
 //!
 //!     sheets --seed S --count N [--max-events K] --format hex|deftest-parse|batch|dump
-//!     sheets files DIR SEED COUNT   random sheets, a file each
-//!     sheets archive DIR SEED COUNT   the same with up to 16 events, a thousand a folder; prints NAME, a tab, the line of each
-//!     sheets lists SEED COUNT    random sheets with up to 16 events and a list each; prints NAME, the sheet in hex, the list as
+//!     sheets files DIR SEED COUNT   random sheets, a file each: mostly few events, at times up to 18
+//!     sheets archive DIR SEED COUNT   the same with up to 18 events, a thousand a folder; prints NAME, a tab, the line of each
+//!     sheets lists SEED COUNT    random sheets with up to 18 events and a list each; prints NAME, the sheet in hex, the list as
 //!                                numbers with commas between, the line of its check (02 §5), tabs between
 //!     sheets tsv FILE            check the sheets of a .tsv against the second program
 //!     sheets tsv FILE --batch    its sheets, each after its length in two bytes
@@ -13,7 +13,7 @@
 //!     sheets text FILE           the bytes of a sheet's text
 //!     sheets dump FILE           the text of a sheet
 
-use second::sheet::{MAX_EVENTS, MAX_SCRATCH};
+use second::sheet::{MAX_EVENTS, MAX_OTHERS, MAX_SCRATCH};
 use second::text::{from_hex, from_text, hex, litmus, to_text};
 use second::{check, judge, random, read, Answer};
 use std::io::Write;
@@ -108,7 +108,7 @@ fn number(word: &str) -> Result<u64, String> {
 
 fn files(dir: &str, seed: &str, count: &str) -> Result<(), String> {
     for index in 0..number(count)? {
-        let c = random::case(number(seed)?, index, 6);
+        let c = random::case(number(seed)?, index, random::mostly_few(index));
         std::fs::write(format!("{dir}/{}", c.name), &c.sheet).map_err(|e| format!("{dir}/{}: {e}", c.name))?;
     }
     Ok(())
@@ -118,7 +118,7 @@ fn archive(dir: &str, seed: &str, count: &str) -> Result<(), String> {
     let seed = number(seed)?;
     let mut stdout = std::io::BufWriter::new(std::io::stdout().lock());
     for index in 0..number(count)? {
-        let c = random::case(seed, index, 16);
+        let c = random::case(seed, index, MAX_OTHERS);
         let folder = format!("{dir}/{:03}", index / 1000);
         if index % 1000 == 0 {
             std::fs::create_dir_all(&folder).map_err(|e| format!("{folder}: {e}"))?;
@@ -135,7 +135,7 @@ fn lists(seed: &str, count: &str) -> Result<(), String> {
     let seed = number(seed)?;
     let mut stdout = std::io::BufWriter::new(std::io::stdout().lock());
     for index in 0..number(count)? {
-        let c = random::list_case(seed, index, 16);
+        let c = random::list_case(seed, index, MAX_OTHERS);
         let list: Vec<String> = c.list.iter().map(|e| e.to_string()).collect();
         let line = check(&c.sheet, &c.list).line();
         writeln!(stdout, "{}\t{}\t{}\t{line}", c.name, hex(&c.sheet), list.join(",")).map_err(|e| e.to_string())?;

@@ -342,7 +342,7 @@ pub const WAYS: &[Way] = &[
             f.length += 1;
         })
     }),
-    way(4, "17th-event-of-wrong-length", |rng, fields| {
+    way(4, "19th-event-of-wrong-length", |rng, fields| {
         let fields = with_others(rng, fields, MAX_OTHERS);
         let i = after_events(&fields);
         let f = an_event(&fields, [1, WRITE, U, 0, 1], &[7, 7]);
@@ -485,7 +485,7 @@ pub const WAYS: &[Way] = &[
         resized(rng, &mut fields, i, length);
         set(fields, Some(i), 1, 5)
     }),
-    way(6, "17th-event-of-bad-content", |rng, fields| {
+    way(6, "19th-event-of-bad-content", |rng, fields| {
         let fields = with_others(rng, fields, MAX_OTHERS);
         let i = after_events(&fields);
         let f = an_event(&fields, [0, WRITE, U, 0, 1], &[7]);
@@ -524,7 +524,7 @@ pub const WAYS: &[Way] = &[
         resized(rng, &mut fields, i, length);
         at(fields, i)
     }),
-    way(6, "17th-event-of-wrong-tear", |rng, fields| {
+    way(6, "19th-event-of-wrong-tear", |rng, fields| {
         if edition(&fields) != 2 {
             return None;
         }
@@ -662,7 +662,7 @@ pub const WAYS: &[Way] = &[
         put(fields, 1, field(4, value))
     }),
     way(9, "fifth-init", |rng, fields| five_inits(rng, fields, |_| {})),
-    way(9, "17th-event", |rng, fields| {
+    way(9, "19th-event", |rng, fields| {
         let fields = with_others(rng, fields, MAX_OTHERS);
         let i = after_events(&fields);
         let f = match rng.percent(50) {

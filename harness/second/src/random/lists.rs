@@ -335,9 +335,14 @@ pub const SHOWN_LISTS: &[&str] = &[
     "4, in several rows of other events",
     "4, of a consistent sheet",
     "4, of a sheet broken by 26",
+    "the most events, accepted",
+    "the most events, 1",
+    "the most events, 2",
+    "the most events, 3",
+    "the most events, 4",
 ];
 
-/// What a list's answer shows of 02 §5.
+/// What a list's answer shows of 02 §5, and of 02 §6: "the most events" are four inits and 18 others.
 pub fn shown_list(sheet: &[u8], list: &[u8], answer: &Checked) -> Vec<&'static str> {
     let Ok(x) = read(sheet) else { return vec![] };
     let m = Relations::of(&x);
@@ -421,6 +426,18 @@ pub fn shown_list(sheet: &[u8], list: &[u8], answer: &Checked) -> Vec<&'static s
             show("4, of a consistent sheet", consistent);
             show("4, of a sheet broken by 26", !consistent);
             debug_assert_eq!(first_fault(&x, &m, list), Some(Fault::Barred(row, v)));
+        }
+    }
+    if x.inits() == MAX_INITS && x.others() == MAX_OTHERS {
+        match answer {
+            Checked::Sheet(_) => {}
+            Checked::Accepted => all.push("the most events, accepted"),
+            Checked::NotAccepted(fault) => all.push(match fault.number() {
+                1 => "the most events, 1",
+                2 => "the most events, 2",
+                3 => "the most events, 3",
+                _ => "the most events, 4",
+            }),
         }
     }
     all

@@ -14,7 +14,7 @@ mod whole;
 
 pub use damage::{damaged, Way, WAYS};
 pub use lists::{list_case, shown_list, ListCase, SHOWN_LISTS};
-pub use shown::{shown, shown_back, shown_written, SHOWN, SHOWN_BACK, SHOWN_WRITTEN};
+pub use shown::{shown, shown_back, shown_most, shown_written, SHOWN, SHOWN_BACK, SHOWN_MOST, SHOWN_WRITTEN};
 pub use tables::{table_buffers, table_case, table_damaged, table_ways, TableCase};
 pub use whole::{sc_heavy, sized, whole};
 
@@ -94,6 +94,11 @@ pub fn case(seed: u64, index: u64, max: usize) -> Case {
     };
     let (scratch, order) = lengths(&mut rng, &sheet);
     Case { name: format!("{seed}-{index}-{what}"), sheet, scratch, order }
+}
+
+/// At most so many events that are not inits, for the sheet number `index` of a run: mostly few, at times the most.
+pub fn mostly_few(index: u64) -> usize {
+    [5, 6, 6, 7, 6, 9, 6, 6, 5, MAX_OTHERS][index as usize % 10]
 }
 
 /// Mostly buffers for every sheet; else about what this sheet needs, under, exactly and over.

@@ -1,5 +1,5 @@
 //! What a sheet shows of 02 §4, and a table for the writer, so that a run of random ones can count it: the tests of an event
-//! with its tear byte, and rule 25 by the tear bytes.
+//! with its tear byte, and rule 25 by the tear bytes. And what a sheet with as many events as there can be shows (02 §6).
 
 use super::*;
 use crate::judge::Relations;
@@ -126,6 +126,47 @@ fn by_rule_25(sheet: &[u8], answer: &Answer) -> Vec<&'static str> {
     all
 }
 
+/// All that [`shown_most`] can say. "The most events" are four inits and 18 others.
+pub const SHOWN_MOST: &[&str] = &[
+    "the most events, orderly",
+    "the most events, unsettled",
+    "the most events, broken by 21 to 25",
+    "the most events, broken 26",
+    "the most events, 12 for one byte",
+    "the most events, 13 for one byte",
+    "9 behind the most events",
+];
+
+/// What the answer for a sheet with as many events as there can be shows of 02 §6.
+pub fn shown_most(c: &Case, answer: &Answer) -> Vec<&'static str> {
+    let most = |inits: usize, others: usize| inits == MAX_INITS && others == MAX_OTHERS;
+    if let Answer::Refused { number: 9, place } = *answer {
+        let (mut at, mut inits, mut others) = (0, 0, 0);
+        while let (true, Some(value)) = (at < place, value_at(&c.sheet, at)) {
+            match (c.sheet[at], value.get(2)) {
+                (2, Some(0)) => inits += 1,
+                (2, _) => others += 1,
+                _ => {}
+            }
+            at += 3 + value.len();
+        }
+        return if c.sheet[place] == 2 && most(inits, others) { vec!["9 behind the most events"] } else { vec![] };
+    }
+    let Ok(x) = read(&c.sheet) else { return vec![] };
+    if !most(x.inits(), x.others()) {
+        return vec![];
+    }
+    match *answer {
+        Answer::Consistent { pair: None, .. } => vec!["the most events, orderly"],
+        Answer::Consistent { .. } => vec!["the most events, unsettled"],
+        Answer::Broken { number: 26, .. } => vec!["the most events, broken 26"],
+        Answer::Broken { .. } => vec!["the most events, broken by 21 to 25"],
+        Answer::Refused { number: 12, .. } if c.scratch == MAX_SCRATCH - 1 => vec!["the most events, 12 for one byte"],
+        Answer::Refused { number: 13, .. } if c.order == MAX_EVENTS - 1 => vec!["the most events, 13 for one byte"],
+        Answer::Refused { .. } => vec![],
+    }
+}
+
 /// All that [`shown_written`] can say.
 pub const SHOWN_WRITTEN: &[&str] = &[
     "edition 2 written",
@@ -142,9 +183,11 @@ pub const SHOWN_WRITTEN: &[&str] = &[
     "6 at edition 2 by the tear byte 1",
     "6 at edition 2 by a tear byte over 1",
     "6 at edition 2 by the tear byte, before 4",
+    "the most events written",
+    "9 behind the most events",
 ];
 
-/// What the writer's answer for a table shows of 02 §4; `out` is the length of the buffer lent.
+/// What the writer's answer for a table shows of 02 §4 and §6; `out` is the length of the buffer lent.
 pub fn shown_written(table: &[Vec<u8>; 5], out: usize, answer: &Written) -> Vec<&'static str> {
     let again = |table: &[Vec<u8>; 5], out: usize| {
         let [head, events, data, rows, pairs] = table;
@@ -159,10 +202,20 @@ pub fn shown_written(table: &[Vec<u8>; 5], out: usize, answer: &Written) -> Vec<
         }
     }
     match *answer {
-        Written::Written { .. } if edition == 2 => match as_edition_1[1] == table[1] {
-            true => vec!["edition 2 written"],
-            false => vec!["edition 2 written", "edition 2 written, may tear where 01's rule says 1"],
-        },
+        Written::Written { .. } => {
+            let mut all = vec![];
+            if table[1].len() / 8 == MAX_EVENTS {
+                all.push("the most events written");
+            }
+            if edition == 2 {
+                all.push("edition 2 written");
+            }
+            if edition == 2 && as_edition_1[1] != table[1] {
+                all.push("edition 2 written, may tear where 01's rule says 1");
+            }
+            all
+        }
+        Written::Refused { number: 9, index: MAX_EVENTS } => vec!["9 behind the most events"],
         Written::Refused { number: 1, .. } if !matches!(edition, 1 | 2) => vec!["1 for a number that is no edition"],
         Written::Refused { number: 5, .. } if !matches!(edition, 1 | 2) => {
             let mut all = match edition {
@@ -212,18 +265,33 @@ pub fn shown_written(table: &[Vec<u8>; 5], out: usize, answer: &Written) -> Vec<
 }
 
 /// All that [`shown_back`] can say.
-pub const SHOWN_BACK: &[&str] = &["edition 2's table", "edition 2's table, may tear where 01's rule says 1"];
+pub const SHOWN_BACK: &[&str] = &[
+    "edition 2's table",
+    "edition 2's table, may tear where 01's rule says 1",
+    "the table of the most events",
+    "15 for the table of the most events",
+];
 
-/// What the table of a sheet shows of 02 §4.
+/// What the table of a sheet shows of 02 §4 and §6.
 pub fn shown_back(sheet: &[u8], answer: &Tabled) -> Vec<&'static str> {
-    match (answer, lists(sheet)) {
-        (Tabled::Tabled { .. }, Ok([head, events, ..])) if head[0] == 2 => {
+    let Ok([head, events, ..]) = lists(sheet) else { return vec![] };
+    let most = events.len() / 8 == MAX_EVENTS;
+    let mut all = vec![];
+    match answer {
+        Tabled::Tabled { .. } => {
+            if head[0] == 2 {
+                all.push("edition 2's table");
+            }
             let by_rule = |e: &[u8]| e[5] == tear_by_the_rule(e[1], e[2], e[3], e[4]);
-            match events.chunks_exact(8).all(by_rule) {
-                true => vec![SHOWN_BACK[0]],
-                false => SHOWN_BACK.to_vec(),
+            if !events.chunks_exact(8).all(by_rule) {
+                all.push("edition 2's table, may tear where 01's rule says 1");
+            }
+            if most {
+                all.push("the table of the most events");
             }
         }
-        _ => vec![],
+        Tabled::Refused { .. } if most => all.push("15 for the table of the most events"),
+        Tabled::Refused { .. } => {}
     }
+    all
 }

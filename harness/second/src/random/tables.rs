@@ -285,13 +285,13 @@ fn sizes(rng: &mut Rng, d: &mut Draft) -> &'static str {
         }
         2 => {
             while d.length() < most {
-                d.rows.push(vec![rng.below(20) as u8, rng.below(8) as u8, rng.below(20) as u8]);
+                d.rows.push(vec![rng.below(MAX_EVENTS) as u8, rng.below(8) as u8, rng.below(MAX_EVENTS) as u8]);
             }
             "many-rows"
         }
         3 => {
             while d.length() < most {
-                d.pairs.push(vec![rng.below(20) as u8, rng.below(20) as u8]);
+                d.pairs.push(vec![rng.below(MAX_EVENTS) as u8, rng.below(MAX_EVENTS) as u8]);
             }
             "many-pairs"
         }

@@ -27,11 +27,11 @@ pub fn whole(rng: &mut Rng, max: usize) -> (String, Vec<Field>) {
         let made = match rng.below(100) {
             0..=44 => template(rng, max, TEMPLATES),
             45..=74 => {
-                let n = rng.range(1, max);
+                let n = others(rng, 1, max);
                 Some(replayed(rng, n))
             }
             _ => {
-                let n = rng.range(1, max);
+                let n = others(rng, 1, max);
                 Some(("free".to_string(), free(rng, n)))
             }
         };
@@ -42,6 +42,14 @@ pub fn whole(rng: &mut Rng, max: usize) -> (String, Vec<Field>) {
             }
         }
     }
+}
+
+/// How many events that are not inits: from `low` to `max`, and often the most that there can be, where they may.
+fn others(rng: &mut Rng, low: usize, max: usize) -> usize {
+    if max == MAX_OTHERS && rng.percent(20) {
+        return max;
+    }
+    rng.range(low, max)
 }
 
 /// The fields as a sheet of edition 2 has them; which of the events that may be either may tear is left to chance.
@@ -274,7 +282,7 @@ pub fn sc_heavy(rng: &mut Rng, max: usize) -> (String, Vec<Field>) {
         let made = if rng.percent(30) {
             template(rng, max, BARS)
         } else {
-            let n = rng.range(max.min(3), max);
+            let n = others(rng, max.min(3), max);
             let size = rng.pick(&[1, 1, 2, 2, 4]);
             let agents = rng.range(2, 5) as u8;
             let sc = rng.pick(&[60, 80, 90, 100]);
@@ -378,17 +386,19 @@ fn finish(rng: &mut Rng, plans: Plans) -> Option<Vec<Field>> {
     if !events.iter().any(|e| reads(e.kind)) {
         return None;
     }
-    // inits: mostly one over the memory, else several, with gaps at times, or none
+    // inits: mostly one over the memory, else several, with gaps at times, or none; beside the most events often the most
+    let most = events.len() == MAX_OTHERS && size >= MAX_INITS && rng.percent(60);
     let mut inits: Vec<(usize, usize)> = vec![];
-    match rng.below(10) {
+    match if most { 9 } else { rng.below(10) } {
         0..=5 => inits.push((0, size)),
         6 => {}
         _ => {
             let mut at = 0;
-            let gaps = rng.percent(30);
+            let gaps = !most && rng.percent(30);
             while at < size && inits.len() < MAX_INITS {
                 let last = inits.len() + 1 == MAX_INITS && !gaps;
-                let width = if last { size - at } else { rng.range(1, size - at) };
+                let left = if most { MAX_INITS - 1 - inits.len() } else { 0 };
+                let width = if last { size - at } else { rng.range(1, size - at - left) };
                 if !(gaps && rng.percent(30)) {
                     inits.push((at, width));
                 }

@@ -83,8 +83,7 @@ fn all_is_shown() {
             seen.extend(shown_list(&c.sheet, &c.list, &check(&c.sheet, &c.list)));
         }
         let may_come = |what: &str| max == MAX_OTHERS || !what.starts_with("the most events");
-        let missing: Vec<&&str> =
-            SHOWN_LISTS.iter().filter(|what| may_come(what) && !seen.contains(**what)).collect();
+        let missing: Vec<&&str> = SHOWN_LISTS.iter().filter(|what| may_come(what) && !seen.contains(**what)).collect();
         assert!(missing.is_empty(), "never came with up to {max} events: {missing:?}");
     }
 }

@@ -47,7 +47,8 @@ impl Tally {
         let of = |e: usize| {
             all.iter().filter(move |(_, times)| times[e - 1] == 0).map(move |(n, _)| format!("{n} at edition {e}"))
         };
-        let unshown = SHOWN.iter().chain(SHOWN_MOST).filter(|what| !self.shown.contains_key(**what)).map(|what| what.to_string());
+        let unshown =
+            SHOWN.iter().chain(SHOWN_MOST).filter(|what| !self.shown.contains_key(**what)).map(|what| what.to_string());
         of(1).chain(of(2)).chain(unshown).collect()
     }
 }
@@ -58,7 +59,10 @@ impl fmt::Display for Tally {
         for (name, [one, two, neither]) in self.all() {
             writeln!(f, "{name:<21}{one:>10}{two:>10}{neither:>10}")?;
         }
-        SHOWN.iter().chain(SHOWN_MOST).try_for_each(|what| writeln!(f, "{what:<41}{:>10}", self.shown.get(what).unwrap_or(&0)))
+        SHOWN
+            .iter()
+            .chain(SHOWN_MOST)
+            .try_for_each(|what| writeln!(f, "{what:<41}{:>10}", self.shown.get(what).unwrap_or(&0)))
     }
 }
 

@@ -236,6 +236,14 @@ fn template(rng: &mut Rng, max: usize, shapes: &[Shape]) -> Option<(String, Plan
             }
         }
     }
+    // markers up to the most events, so that there is as much to search as there can be
+    if max == MAX_OTHERS && rng.percent(20) {
+        while plans.events.len() < max {
+            let agent = rng.range(1, plans.agents as usize) as u8;
+            let i = rng.range(0, plans.events.len());
+            insert(&mut plans, i, Plan { agent, kind: MARKER, mode: SC, start: 0, width: 0, from: vec![] });
+        }
+    }
     Some((name.to_string(), plans))
 }
 

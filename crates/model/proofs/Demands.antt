@@ -33,7 +33,7 @@ use Rattle.model.specs.Rules.{faulty, fault}
 use Rattle.model.specs.Order.{problem}
 use Rattle.model.specs.Unsettled.{unsettledPair}
 use Rattle.model.specs.Judged.{needed, Breaks, settledOf, JudgedConsistent, Judged}
-use Rattle.model.specs.Demands.{IsRefused, IsConsistent, Result, Refuses, by-sheet, short-scratch, short-order, Demand1, Allowed, Meant, Demand2, Testable, Demand3, Agreement, SaysTheVerdict, OneVerdict, NeverShort, OneRowEach, EveryAgent, Leaves, LeavesZero, FitsWord, SameWord, InitsFirst, FirstNamed, LowestPair, Reduction}
+use Rattle.model.specs.Demands.{IsRefused, IsConsistent, Result, Refuses, by-sheet, short-scratch, short-order, Demand1, Allowed, Meant, Demand2, Testable, Demand3, Agreement, SaysTheVerdict, OneVerdict, NeverShort, LargestSheet, OneRowEach, EveryAgent, Leaves, LeavesZero, FitsWord, SameWord, InitsFirst, FirstNamed, LowestPair, Reduction}
 use Rattle.model.proofs.Sound.{Sound, sound}
 use Rattle.model.proofs.UnsettledLaws.{none-orderly, orderly-none}
 use Rattle.model.proofs.Serial.{explains}
@@ -44,7 +44,7 @@ use Rattle.model.proofs.OutcomeLaws.{outcome-judged}
 use Rattle.model.proofs.OrderLaws.{inits-others, begins}
 use Rattle.model.proofs.FirstLaws.{pair-lowest}
 use Rattle.model.proofs.LowestLaws.{breaks-first}
-use Rattle.model.proofs.VerdictLaws.{judged-verdict, verdict-unique}
+use Rattle.model.proofs.VerdictLaws.{few-events, few-scratch, judged-verdict, verdict-unique}
 use Rattle.model.proofs.FitLaws.{judged-fits, same-word}
 use Rattle.model.proofs.Single.{one-access, reduced}
 
@@ -210,6 +210,11 @@ one-verdict = verdict-unique
 
 pub never-short : NeverShort
 never-short s n p o v = (refusal s n p (v .says), ⊎-elim (λ w. inl (w .1)) inr (refusal-number s n p (v .says)))
+
+pub largest-sheet : LargestSheet
+largest-sheet s x w =
+    let p = w .well-formed in
+    record { others-few = p .others-few; events-few = few-events x p; scratch-small = few-scratch x p }
 
 pub one-row-each : OneRowEach
 one-row-each s scratch order answer scratch′ order′ h j =

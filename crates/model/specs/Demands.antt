@@ -9,6 +9,7 @@
 --     FitsWord       every answer fits the exported word                       SameWord          one word, one answer
 --     InitsFirst     the order that is reported begins with the inits          FirstNamed, LowestPair     the rule, the pair that is named is the first
 --     LitmusRight    the entries of a table, each Judged                       Reduction         today's sheets: 01's sentences over events
+--     LargestSheet   the most that a sheet has and needs, in numbers
 -- "Well-formed" is `WellSheet s x` (parse/specs/WellSheet.antt): 01's bullets, 02 §1 and §4, said without the reader, and `Exactly` there: the reader accepts
 -- the well-formed sheets and no others.
 -- Assumes nothing.
@@ -134,6 +135,15 @@ OneVerdict = (s : List ℕ) (a b : Answer) (o q : List ℕ) → Verdict s a o �
 -- a verdict that refuses is by the sheet's own rows of the table: 1 to 11, and 02's 14
 abbrev pub NeverShort : Type 0
 NeverShort = (s : List ℕ) (n p : ℕ) (o : List ℕ) → Verdict s (Refused n p) o → Refusal s n p × ((n ≤ 11) ⊎ (n ≡ 14))
+
+-- 02 §6, the numbers written out: "from 16 to 18, .. and the largest scratch is 32,768 bytes"; that some sheet has and needs as much: litmus 16
+pub record Largest (x : Execution) : Type 0 where
+  pub others-few : others (x .events) ≤ 18
+  pub events-few : length (x .events) ≤ 22
+  pub scratch-small : needed x ≤ 32768
+
+abbrev pub LargestSheet : Type 0
+LargestSheet = (s : List ℕ) (x : Execution) → WellSheet s x → Largest x
 
 -- Where the answer is not a refusal, the sheet is well-formed, and each byte of each read has exactly one row.
 pub record RowForEach (s : List ℕ) : Type 0 where

@@ -8,5 +8,6 @@ pub mod TearLaws
 pub mod WellEventLaws
 pub mod WellWritten
 pub mod ShortLaws
+pub mod RoomLaws
 pub mod CopyLaws
 pub mod AlikeLaws

@@ -2,14 +2,15 @@
 --     LendsTheTable       the fronts of the buffers lend the sheet's table
 --     RefusedKeeps        what is refused changes nothing
 --     ShortOfWhole        15 comes only for a sheet that is whole, and names the first buffer that is too short
+--     AmpleRoom           with 3, 176, 544, 432 and 64 bytes 15 never comes
 --     LendingAgree        two results agree, buffers too
 --     TableFitsWord       the numbers of a table that was lent stand in their parts of the word
 --     RefusedWord         so do kind, number and place of a refusal
 -- Assumes nothing.
 use mathlib.Core.Path.{_≡_}
 use mathlib.Core.List.{List}
-use Prim.Native.Nat.{ℕ, _*_, _^_, _/_, _%_, _<_}
-use lib.ListN.{take}
+use Prim.Native.Nat.{ℕ, _*_, _^_, _/_, _%_, _<_, _≤_}
+use lib.ListN.{length, take}
 use Rattle.format.specs.Execution.{Execution}
 use Rattle.format.specs.Layout.{editionOf, headBytes, rowBytes, pairBytes}
 use Rattle.parse.specs.Parse.{whole, parse}
@@ -48,6 +49,18 @@ pub record Short (s : List ℕ) (entry : Slices) (k : ℕ) : Type 0 where
 
 abbrev pub ShortOfWhole : Type 0
 ShortOfWhole = (s : List ℕ) (entry exit : Slices) (k : ℕ) → Lending s entry (Refused 15 k) exit → Short s entry k
+
+-- the header's PLIMDRONG_MAX_TABLE_.., in numbers: 22 events of eight bytes; the data of four inits of 64 bytes and of 18 others of twice eight; eight rows for
+-- each of the others; 32 pairs
+pub record Ample (b : Slices) : Type 0 where
+  pub head : 3 ≤ length (b .head)
+  pub events : 176 ≤ length (b .events)
+  pub bytes : 544 ≤ length (b .bytes)
+  pub rows : 432 ≤ length (b .rows)
+  pub pairs : 64 ≤ length (b .pairs)
+
+abbrev pub AmpleRoom : Type 0
+AmpleRoom = (s : List ℕ) (entry exit : Slices) (k : ℕ) → Ample entry → Lending s entry (Refused 15 k) exit → ⊥
 
 abbrev pub LendingAgree : Type 0
 LendingAgree = (s : List ℕ) (entry : Slices) (q r : Lent) (exit exit′ : Slices) → Lending s entry q exit → Lending s entry r exit′ → (q ≡ r) × (exit ≡ exit′)

@@ -132,7 +132,7 @@
 #define PLIMDRONG_MAX_MEMORY 64
 #define PLIMDRONG_MAX_WIDTH 8
 
-/* Bytes enough for the table of every sheet, by these limits. */
+/* Bytes enough for the table of every sheet, by these limits: with them plimdrong_table never answers 15. */
 #define PLIMDRONG_MAX_TABLE_HEAD 3
 #define PLIMDRONG_MAX_TABLE_EVENTS (8 * PLIMDRONG_MAX_EVENTS)
 #define PLIMDRONG_MAX_TABLE_DATA \

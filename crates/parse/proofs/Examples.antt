@@ -1,4 +1,4 @@
--- `parse`, computed on the sheets of specs/Examples.antt, and the longest sheet. Assumes nothing.
+-- `parse`, computed on the sheets of specs/Examples.antt, and the longest sheet; the reader with 16 on those of specs/Raised.antt. Assumes nothing.
 use mathlib.Core.Path.{_≡_, refl}
 use mathlib.Core.List.{List}
 use Prim.Native.Nat.{ℕ}
@@ -13,14 +13,21 @@ use Rattle.format.specs.Shape.{reads, writes, marks, initial, unordered, sc, te
 use Rattle.content.specs.Content.{within, headFits, inside, initFormed, sized, kindFits, otherFormed, formed, tearFits, alone, standsFirst, eventFits, roomIn, joins, rowRises, rowFits, parts, pairRises, pairFits}
 use Rattle.parse.specs.Parse.{placeOf, allowed, headFault, eventFaultBy, rowFault, pairFault, valueFaultBy, faultBy, taken, after, isRow, lacks, lowestLacking, appears, missing, completed, finish, fieldsFrom, parse}
 use Rattle.parse.specs.Examples.{examples, Right, Longest}
+use Rattle.parse.specs.Raised.{roomUpTo, fieldsUpTo, parseUpTo, withSixteen, RightWithSixteen}
 use Rattle.parse.specs.Refusal.{Refusal}
 use Rattle.parse.proofs.ParseLaws.{too-long}
 use Rattle.parse.proofs.RefusalLaws.{refusal, blames-number}
 
 -- The list names every definition that `parse` unfolds to: a new one joins it, or `refl` fails here.
+computed : Right × RightWithSixteen
+unfolding _and_ _or_ non any all number keep find each from examples lookup accessAt shapeAt readsAt writesAt saw wrote isInit readsSome isMarker meets eventNo event inits others rowBelow pairBelow valueAt fieldPlace headBytes eventBytes tearBy dataBytes seenOf writtenOf rowBytes reads writes marks initial unordered sc tearFree covers overlap equal bothSc divides unbroken tearOf within headFits inside initFormed sized kindFits otherFormed formed tearFits alone standsFirst eventFits roomIn joins rowRises rowFits parts pairRises pairFits placeOf allowed headFault eventFaultBy rowFault pairFault valueFaultBy faultBy taken after isRow lacks lowestLacking appears missing completed finish fieldsFrom parse withSixteen roomUpTo fieldsUpTo parseUpTo
+computed = (refl, refl)
+
 pub right : Right
-unfolding _and_ _or_ non any all number keep find each from examples lookup accessAt shapeAt readsAt writesAt saw wrote isInit readsSome isMarker meets eventNo event inits others rowBelow pairBelow valueAt fieldPlace headBytes eventBytes tearBy dataBytes seenOf writtenOf rowBytes reads writes marks initial unordered sc tearFree covers overlap equal bothSc divides unbroken tearOf within headFits inside initFormed sized kindFits otherFormed formed tearFits alone standsFirst eventFits roomIn joins rowRises rowFits parts pairRises pairFits placeOf allowed headFault eventFaultBy rowFault pairFault valueFaultBy faultBy taken after isRow lacks lowestLacking appears missing completed finish fieldsFrom parse
-right = refl
+right = computed .0
+
+pub right-with-sixteen : RightWithSixteen
+right-with-sixteen = computed .1
 
 -- only `too-long` has the number 1
 not-one : (s : List ℕ) {n p : ℕ} → Refusal s n p → n ≡ 1 → length s ≡ 4096 → ⊥

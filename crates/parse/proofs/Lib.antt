@@ -10,4 +10,5 @@ pub mod FormedLaws
 pub mod FramedLaws
 pub mod WellSheetLaws
 pub mod RefusalLaws
+pub mod RaisedLaws
 pub mod Examples

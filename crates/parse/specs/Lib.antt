@@ -5,3 +5,4 @@ pub mod Framed
 pub mod WellSheet
 pub mod Refusal
 pub mod Examples
+pub mod Raised

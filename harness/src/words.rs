@@ -73,7 +73,7 @@ pub fn refusal(number: u8) -> Option<Refusal> {
         ),
         15 => (
             "A buffer that was lent to be filled is too short.",
-            "Lend 4,096 bytes for a sheet; for a table 3 (head), 160 (events), 512 (data), 384 (rows) and 64 (pairs) are \
+            "Lend 4,096 bytes for a sheet; for a table 3 (head), 176 (events), 544 (data), 432 (rows) and 64 (pairs) are \
              enough.",
         ),
         _ => return None,

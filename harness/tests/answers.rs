@@ -27,6 +27,46 @@ fn every_refusal() {
     }
 }
 
+/// The limits that sentences and documents name are the crate's.
+#[test]
+fn limits_in_words() {
+    use plimdrong::{MAX_EVENTS, MAX_OTHERS, MAX_PAIRS, MAX_SCRATCH, MAX_SHEET};
+    use plimdrong::{MAX_TABLE_DATA, MAX_TABLE_EVENTS, MAX_TABLE_HEAD, MAX_TABLE_PAIRS, MAX_TABLE_ROWS};
+    let comma = |n: usize| format!("{},{:03}", n / 1000, n % 1000);
+    let (sheet, scratch) = (comma(MAX_SHEET), comma(MAX_SCRATCH));
+    let (event, pair) = (format!("{}th other event", MAX_OTHERS + 1), format!("{}rd pair", MAX_PAIRS + 1));
+    let table = [MAX_TABLE_HEAD, MAX_TABLE_EVENTS, MAX_TABLE_DATA, MAX_TABLE_ROWS, MAX_TABLE_PAIRS];
+    let [head, events, data, rows, pairs] = table;
+    for (number, what) in [
+        (1, format!("over {sheet} bytes")),
+        (9, format!("a fifth init, a {event} or a {pair}.")),
+        (12, format!("; {scratch} are enough for every sheet.")),
+        (13, format!("; {MAX_EVENTS} are enough for every sheet.")),
+        (15, format!("Lend {sheet} bytes for a sheet; for a table {head} (head), {events} (events), {data} (data), {rows} (rows) and {pairs} (pairs) are enough.")),
+    ] {
+        let words = refusal(number).unwrap();
+        let said = format!("{} {}", words.meaning, words.remedy);
+        assert!(said.contains(&what), "{number}: {said}\n{what}");
+    }
+    let root = PathBuf::from(env!("CARGO_MANIFEST_DIR")).join("..");
+    let documents = ["README.md", "docs/SHEET.md", "include/plimdrong.h"]
+        .map(|name| (name, std::fs::read_to_string(root.join(name)).unwrap()));
+    for (name, what) in [
+        ("README.md", format!("| 9 | a fifth init, a {event}, a {pair} |")),
+        ("README.md", format!("; {scratch} always do |")),
+        ("README.md", format!("; {MAX_EVENTS} always do |")),
+        ("docs/SHEET.md", format!("| 9 | a fifth init, a {event}, a {pair} |")),
+        ("docs/SHEET.md", format!("There are at most 4 inits, {MAX_OTHERS} other events, {MAX_PAIRS} pairs")),
+        ("docs/SHEET.md", format!("; {scratch} always do |")),
+        ("docs/SHEET.md", format!("; {MAX_EVENTS} always do |")),
+        ("docs/SHEET.md", format!("{head} bytes for the head, {events} for the events, {data} for the data, {rows} for the rows and {pairs} for the pairs")),
+        ("include/plimdrong.h", format!("fifth init, {event}, {pair}")),
+    ] {
+        let (_, text) = documents.iter().find(|(document, _)| *document == name).unwrap();
+        assert!(text.contains(&what), "{name} does not say: {what}");
+    }
+}
+
 #[test]
 fn every_rule() {
     for (number, names, line, rule) in [

@@ -1,7 +1,7 @@
 // Happens-before over the tables: succ[e] is the mask of the events that e happens before, pred[d] of those that happen before d. The direct steps are
 // collected mask by mask (what events make by themselves: crate `own`), then closed. No function has a `requires`.
 use cells::gain;
-use cells::scatter;
+use cells::take;
 use format::Pair;
 use format::Row;
 use sets::SLOTS;
@@ -12,10 +12,12 @@ use tables::PAIRS;
 use tables::ROW_CELLS;
 use tables::ROWS;
 ghost use mathlib.Core.Path.{_≡_};
-ghost use Prim.Native.Nat.{min};
+ghost use Prim.Native.Nat.{_%_, _≤_, min};
+ghost use lib.ListN.{length};
 ghost use Rattle.sets.specs.Mask.{slots};
 ghost use Rattle.tables.specs.Tables.{rowRoom, pairRoom};
 ghost use Rattle.before.specs.Before.{syncIn, syncGains, rowStepsIn, pairGains, pairStepsIn, stepsIn, columnsIn, ClosedSteps};
+ghost use Rattle.before.specs.steps.Columns.{Into, Wide, columnUp};
 
 // ---- what rows and pairs add
 
@@ -86,13 +88,46 @@ fn steps(
     add_pairs(p, pairs, succ);
 }
 
+// What the first n rows lead to, all together.
+fn into(rows: &[u32], n: usize) -> u32
+    requires { ⌜ n ≤ length (now rows) ⌝ }
+    ensures { λ r. ⌜ Into n (now (rows .entry)) r ⌝ }
+{
+    let mut all: u32 = 0;
+    for e in 0..n {
+        all = all | rows[e];
+    }
+    all
+}
+
+// A number of places, in whole eights, below which the members of a set lie.
+fn wide(m: u32) -> usize
+    ensures { λ r. ⌜ Wide m r ⌝ }
+{
+    if m < 65536 {
+        return if m < 256 { 8 } else { 16 };
+    }
+    if m < 16777216 { 24 } else { SLOTS }
+}
+
+// The masks at the members of the set m gain e, of the first w. All w are looked at, without a jump, so that the machine takes several at once.
+fn column(masks: &mut [u32], m: u32, e: usize, w: usize)
+    requires { ⌜ (w ≤ slots) × (w ≤ length (now masks)) ⌝ }
+    ensures { λ _. ⌜ now (masks .exit) ≡ columnUp (now (masks .entry)) m (e % slots) w ⌝ }
+{
+    for d in 0..w {
+        masks[d] = take(masks[d], e, sets::has(m, d));
+    }
+}
+
 // pred[d] gains e, for each of the first n events e and each d that e leads to; n counts up to the slots and the rows there are.
 fn turn(succ: &[u32], n: usize, pred: &mut [u32])
     ensures { λ _. ⌜ now (pred .exit) ≡ columnsIn (now (succ .entry)) n (now (pred .entry)) ⌝ }
 {
     let m = least(n, least(SLOTS, succ.len()));
+    let w = least(wide(into(succ, m)), pred.len());
     for e in 0..m {
-        scatter(pred, succ[e], e);
+        column(pred, succ[e], e, w);
     }
 }
 

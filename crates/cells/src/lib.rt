@@ -4,7 +4,7 @@ ghost use mathlib.Core.Bool.{cond};
 ghost use Prim.Native.Nat.{_%_};
 ghost use lib.ListN.{set};
 ghost use Rattle.sets.specs.Mask.{slots, insert};
-ghost use Rattle.cells.specs.Cells.{gaining, spread, scatter};
+ghost use Rattle.cells.specs.Cells.{gaining, spread};
 use sets::SLOTS;
 
 // Writes a mask.
@@ -40,18 +40,6 @@ pub fn spread(masks: &mut [u32], m: u32, w: usize, e: usize)
     while left != 0 {
         let v = sets::lowest(left);
         gain(masks, v * SLOTS + w % SLOTS, e);
-        left = sets::without(left, v);
-    }
-}
-
-// The masks at the members of the set m gain e.
-pub fn scatter(masks: &mut [u32], m: u32, e: usize)
-    ensures { λ _. ⌜ now (masks .exit) ≡ scatter (now (masks .entry)) m (e % slots) ⌝ }
-{
-    let mut left = m;
-    while left != 0 {
-        let v = sets::lowest(left);
-        gain(masks, v, e);
         left = sets::without(left, v);
     }
 }

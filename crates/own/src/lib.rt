@@ -2,6 +2,7 @@
 // function has a `requires`.
 use cells::gain;
 use cells::place;
+use cells::take;
 use sets::SLOTS;
 use sets::least;
 use tables::AGENTS;
@@ -14,23 +15,18 @@ ghost use Rattle.cells.specs.Cells.{placing};
 ghost use Rattle.own.specs.Own.{meetsIn, metIn, ownIn};
 ghost use Rattle.own.specs.steps.ByAgent.{agentsIn, behindIn, ownBy};
 
-// Shares an access of event e a byte with one of event d? Most events have no second access.
+// Shares an access of event e a byte with one of event d? Without a jump: which events an init meets is hard to foresee.
 fn meets(t: &[u8; COLUMNS], e: usize, d: usize) -> bool
     ensures { λ r. ⌜ r ≡ meetsIn (now (t .entry)) (e % slots) (d % slots) ⌝ }
 {
     let i = 2 * (e % SLOTS);
     let j = 2 * (d % SLOTS);
     let a = tables::shape(t, i);
-    let c = tables::shape(t, j);
-    if ranges::overlap(a, c) {
-        return true;
-    }
     let b = tables::shape(t, i + 1);
+    let c = tables::shape(t, j);
     let f = tables::shape(t, j + 1);
-    if (b.width == 0) & (f.width == 0) {
-        return false;
-    }
-    ranges::overlap(a, f) | (ranges::overlap(b, c) | ranges::overlap(b, f))
+    (ranges::overlap(a, c) | ranges::overlap(a, f))
+        | (ranges::overlap(b, c) | ranges::overlap(b, f))
 }
 
 // Is d another event that e meets?
@@ -47,9 +43,7 @@ fn met(t: &[u8; COLUMNS], n: usize, e: usize) -> u32
     let m = least(n, SLOTS);
     let mut s = 0;
     for d in 0..m {
-        if met_by(t, e, d) {
-            s = sets::with(s, d);
-        }
+        s = take(s, d, met_by(t, e, d));
     }
     s
 }

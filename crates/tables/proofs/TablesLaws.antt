@@ -3,7 +3,7 @@
 --     at-hit, at-miss                      the access at a byte
 --     reader-slot, writer-slot, first-slot, second-slot     a row, a pair names events that have a place
 --     agent-place                          an agent has a place
---     overlap-left, overlap-right, across-first, across-none, across-rest     the accesses of two events, tested one after another
+--     overlap-left, overlap-right, across-first, across-none, across-rest, across-all     the accesses of two events, tested one after another
 --     row-at                               the row that the code reads at a place
 use mathlib.Core.Path.{_≡_, sym, ap, _∙_}
 use mathlib.Core.Bool.{Bool, true, false, cond, _&&_, _||_}
@@ -77,6 +77,26 @@ pub overlap-right : (a b : Shape) → b .width ≡ 0 → overlap a b ≡ false
 unfolding overlap _and_
 overlap-right a b e =
     ap (λ (w : ℕ). ltb 0 (a .width) and ltb 0 w and ltb (a .start) (b .start + b .width) and ltb (b .start) (a .start + a .width)) e ∙ and-false (ltb 0 (a .width))
+
+-- R tested of all four
+module _ (R : Shape → Shape → Bool) (t : List ℕ) (e d : ℕ) (he : e < slots) (hd : d < slots) (a b c f : Shape) (is-a : a ≡ shapeIn t (2 * e % accesses))
+    (is-b : b ≡ shapeIn t ((2 * e + 1) % accesses)) (is-c : c ≡ shapeIn t (2 * d % accesses)) (is-f : f ≡ shapeIn t ((2 * d + 1) % accesses)) where
+  pub across-all : (p q u v : Bool) → p ≡ R a c → q ≡ R a f → u ≡ R b c → v ≡ R b f → ((p || q) || (u || v)) ≡ acrossIn R t e d
+  across-all p q u v is-p is-q is-u is-v =
+      bar-or (p || q) (u || v) ∙ (λ z. bar-or p q z or bar-or u v z)
+      ∙ (λ z. ((is-p ∙ (λ m. R (at-a m) (at-c m))) z or (is-q ∙ (λ m. R (at-a m) (at-f m))) z) or ((is-u ∙ (λ m. R (at-b m) (at-c m))) z or (is-v ∙ (λ m. R (at-b m) (at-f m))) z))
+    where
+      at-a : a ≡ shapeIn t (2 * e)
+      at-a = is-a ∙ ap (shapeIn t) (mod-eq-of-lt (omega arith))
+
+      at-b : b ≡ shapeIn t (2 * e + 1)
+      at-b = is-b ∙ ap (shapeIn t) (mod-eq-of-lt (omega arith))
+
+      at-c : c ≡ shapeIn t (2 * d)
+      at-c = is-c ∙ ap (shapeIn t) (mod-eq-of-lt (omega arith))
+
+      at-f : f ≡ shapeIn t (2 * d + 1)
+      at-f = is-f ∙ ap (shapeIn t) (mod-eq-of-lt (omega arith))
 
 -- R tested of the first accesses a, c, then, where one of the second accesses b, f is there, of the others
 module _ (R : Shape → Shape → Bool) (t : List ℕ) (e d : ℕ) (he : e < slots) (hd : d < slots) (a c : Shape) (is-a : a ≡ shapeIn t (2 * e % accesses))

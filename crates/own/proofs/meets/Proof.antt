@@ -4,7 +4,7 @@ use native.Mathlib.Omega.{arith}
 use denote.Ref.{now}
 use Rattle.sets.specs.Mask.{slots}
 use Rattle.format.specs.Shape.{overlap}
-use Rattle.tables.proofs.TablesLaws.{overlap-left, overlap-right, across-first, across-none, across-rest}
+use Rattle.tables.proofs.TablesLaws.{across-all}
 use Rattle.own.specs.Own.{meetsIn}
 use borrow.Author.Needs.{needs}
 use Rattle.own.proofs.meets.Statement.{statement}
@@ -19,18 +19,11 @@ mul-j c = search needs
 shape-requires : tie.Need-shape-requires
 shape-requires c κs = search needs
 
-shape-requires-2 : tie.Need-shape-requires-2
-shape-requires-2 c κs = search needs
-
-overlap-requires : tie.Need-overlap-requires
-overlap-requires c κs = search needs
-
-returns : tie.Need-returns
-unfolding meetsIn
-returns c = across-first overlap (now (c .before .before .before .before .args .t)) (c .before .before .before .before .args .e % slots) (c .before .before .before .before .args .d % slots) (omega arith) (omega arith) (c .before .before .before .shape .result) (c .before .before .shape2 .result) (c .before .before .before .shape .ensures) (c .before .before .shape2 .ensures) (c .before .overlap .result) (c .before .overlap .ensures) (c .if1 .taken)
-
 add-shape : tie.Need-add-shape
 add-shape c = search needs
+
+shape-requires-2 : tie.Need-shape-requires-2
+shape-requires-2 c κs = search needs
 
 shape-requires-3 : tie.Need-shape-requires-3
 shape-requires-3 c κs = search needs
@@ -41,9 +34,8 @@ add-shape-2 c = search needs
 shape-requires-4 : tie.Need-shape-requires-4
 shape-requires-4 c κs = search needs
 
-returns-2 : tie.Need-returns-2
-unfolding meetsIn
-returns-2 c = across-none overlap (now (c .before .before .before .before .before .before .before .before .before .args .t)) (c .before .before .before .before .before .before .before .before .before .args .e % slots) (c .before .before .before .before .before .before .before .before .before .args .d % slots) (omega arith) (omega arith) (c .before .before .before .before .before .before .before .before .shape .result) (c .before .before .before .before .before .before .before .shape2 .result) (c .before .before .before .before .before .before .before .before .shape .ensures) (c .before .before .before .before .before .before .before .shape2 .ensures) (c .before .before .before .before .before .before .overlap .result) (c .before .before .before .before .before .before .overlap .ensures) (c .before .before .before .before .shape3 .result) (c .before .before .before .shape4 .result) (c .before .before .before .before .shape3 .ensures) (c .before .before .before .shape4 .ensures) (c .before .before .before .before .before .if1 .left) overlap-left overlap-right (c .if2 .taken)
+overlap-requires : tie.Need-overlap-requires
+overlap-requires c κs = search needs
 
 overlap-requires-2 : tie.Need-overlap-requires-2
 overlap-requires-2 c κs = search needs
@@ -54,9 +46,10 @@ overlap-requires-3 c κs = search needs
 overlap-requires-4 : tie.Need-overlap-requires-4
 overlap-requires-4 c κs = search needs
 
-returns-3 : tie.Need-returns-3
+returns : tie.Need-returns
 unfolding meetsIn
-returns-3 c = across-rest overlap (now (c .before .before .before .before .before .before .before .before .before .before .before .before .args .t)) (c .before .before .before .before .before .before .before .before .before .before .before .before .args .e % slots) (c .before .before .before .before .before .before .before .before .before .before .before .before .args .d % slots) (omega arith) (omega arith) (c .before .before .before .before .before .before .before .before .before .before .before .shape .result) (c .before .before .before .before .before .before .before .before .before .before .shape2 .result) (c .before .before .before .before .before .before .before .before .before .before .before .shape .ensures) (c .before .before .before .before .before .before .before .before .before .before .shape2 .ensures) (c .before .before .before .before .before .before .before .before .before .overlap .result) (c .before .before .before .before .before .before .before .before .before .overlap .ensures) (c .before .before .before .before .before .before .before .shape3 .result) (c .before .before .before .before .before .before .shape4 .result) (c .before .before .before .before .before .before .before .shape3 .ensures) (c .before .before .before .before .before .before .shape4 .ensures) (c .before .before .before .before .before .before .before .before .if1 .left) (c .before .before .overlap2 .result) (c .before .overlap3 .result) (c .overlap4 .result) (c .before .before .overlap2 .ensures) (c .before .overlap3 .ensures) (c .overlap4 .ensures)
+returns c =
+    across-all overlap (now (c .before .before .before .before .before .before .before .before .args .t)) (c .before .before .before .before .before .before .before .before .args .e % slots) (c .before .before .before .before .before .before .before .before .args .d % slots) (omega arith) (omega arith) (c .before .before .before .before .before .before .before .shape .result) (c .before .before .before .before .before .before .shape2 .result) (c .before .before .before .before .before .shape3 .result) (c .before .before .before .before .shape4 .result) (c .before .before .before .before .before .before .before .shape .ensures) (c .before .before .before .before .before .before .shape2 .ensures) (c .before .before .before .before .before .shape3 .ensures) (c .before .before .before .before .shape4 .ensures) (c .before .before .before .overlap .result) (c .before .before .overlap2 .result) (c .before .overlap3 .result) (c .overlap4 .result) (c .before .before .before .overlap .ensures) (c .before .before .overlap2 .ensures) (c .before .overlap3 .ensures) (c .overlap4 .ensures)
 
 pub meets-spec : {M : Type 1} → statement M
 meets-spec =
@@ -65,15 +58,13 @@ meets-spec =
     mul-i
     mul-j
     shape-requires
-    shape-requires-2
-    overlap-requires
-    returns
     add-shape
+    shape-requires-2
     shape-requires-3
     add-shape-2
     shape-requires-4
-    returns-2
+    overlap-requires
     overlap-requires-2
     overlap-requires-3
     overlap-requires-4
-    returns-3)
+    returns)

@@ -18,11 +18,11 @@ use Rattle.marks.proofs.TableLaws.{cleared-again, length-cleared, marked-cleare
 use Rattle.orders.specs.Problem.{Problem}
 use Rattle.orders.specs.Order.{Meets}
 use Rattle.orders.specs.First.{FirstOf}
-use Rattle.orders.specs.Step.{Below, Runs}
+use Rattle.orders.specs.Step.{Below, Runs, Dead}
 use Rattle.orders.specs.Inits.{Begins}
 use Rattle.orders.specs.Tables.{tabled}
 use Rattle.orders.specs.Answer.{Fits, Possible, Ordered, Told, Answered}
-use Rattle.orders.specs.Walk.{Starting, Walked, Searched}
+use Rattle.orders.specs.Walk.{Starting, Walked, Descended, Searched}
 use Rattle.orders.proofs.FirstLaws.{first-unique}
 use Rattle.orders.proofs.TrailLaws.{runs-length}
 use Rattle.orders.proofs.InitsLaws.{from-length, from-take, whole-first, whole-none, runs-whole}
@@ -137,6 +137,17 @@ searched P k scratch need {t} {u} {v} f e c w d =
       found = w .found;
       none = w .none;
     }
+
+-- cleared, and then no mark was made
+module _ (P : Problem) (k : ℕ) (scratch : List ℕ) (need : ℕ) {t : List ℕ} (e : need ≡ bytesFor (P .events - k)) (c : t ≡ cleared need scratch) where
+  unmarked : t ≡ cleared (bytesFor (P .events - k)) scratch
+  unmarked = c ∙ ap (λ (n : ℕ). cleared n scratch) e
+
+  pub searched-first : {path : List ℕ} {r : Bool} → r ≡ true → Descended P k r path → Searched P k scratch true t path
+  searched-first h d = record { clean = unmarked; found = λ z. d .found h; none = λ z. absurd (false≢true (sym z)) }
+
+  pub searched-none : {path : List ℕ} → Dead P (Below k) → Searched P k scratch false t path
+  searched-none d = record { clean = unmarked; found = λ z. absurd (false≢true z); none = λ z. d }
 
 module _ {k m : ℕ} {before bars scratch order : List ℕ} where
   pub answered-unfit : (Fits k m (length scratch) × (m ≤ length order) → ⊥) → Answered k m before bars scratch order false scratch order

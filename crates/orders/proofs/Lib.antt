@@ -5,8 +5,11 @@ pub mod PlaceLaws
 pub mod InitsLaws
 pub mod TablesLaws
 pub mod TrailLaws
+pub mod WayLaws
+pub mod DescendLaws
 pub mod StandLaws
 pub mod NextLaws
 pub mod SeekLaws
 pub mod AnswerLaws
 pub mod Promises
+pub mod ForcedLaws

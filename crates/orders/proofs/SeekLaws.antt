@@ -24,7 +24,8 @@ use Rattle.orders.specs.Walk.{NextIs, Starting}
 use Rattle.orders.proofs.StepLaws.{Best, same-first, same-dead, dead-here}
 use Rattle.orders.proofs.TablesLaws.{with-insert, below-full}
 use Rattle.orders.proofs.TrailLaws.{placed, On, on-le, on-more, on-end, on-less, Full, trail-snoc, trail-init, Bests, trail-first}
-use Rattle.orders.proofs.StandLaws.{Stand, stand-lt, stand-size, grown, grown-full, spot-table, next-path, last-path, last-at}
+use Rattle.orders.proofs.WayLaws.{way-end}
+use Rattle.orders.proofs.StandLaws.{Stand, way, stand-lt, grown, grown-full, spot-table, next-path, last-path, last-at}
 
 pub record Seek (P : Problem) (k : ℕ) (p table : List ℕ) : Type 0 where
   pub bests : Bests P (full k) p
@@ -76,8 +77,4 @@ module _ {P : Problem} {k : ℕ} {table₀ path₀ : List ℕ} (st : Starting P 
           }
 
     pub seek-end : s ≡ full (P .events) → FirstOf (Runs P (Below k)) (take (P .events - k) path)
-    seek-end h =
-        let d : depth ≡ P .events - k = let a = stand-size st g in let b = ap (λ (x : ℕ). count (mem x) (P .events)) h ∙ size-full (P .events) in omega arith in
-        subst (λ (n : ℕ). FirstOf (Runs P (Below k)) (take n path)) d
-        (same-first P (take depth path) (Has (full k)) (Below k) (below-full k)
-        (trail-first P (take depth path) (full k) (w .bests) (λ e q. subst (λ (x : ℕ). Has x e) (sym h ∙ g .at) (mem-full (P .events) e q))))
+    seek-end h = way-end (st .inits) (st .events) (way st g) (w .bests) h

@@ -26,7 +26,8 @@ use Rattle.orders.specs.Problem.{Problem}
 use Rattle.orders.specs.Step.{Ready}
 use Rattle.placing.specs.Placing.{isSeen, Entered}
 use Rattle.orders.specs.Walk.{Tried, NextIs, Starting}
-use Rattle.orders.proofs.TrailLaws.{placed, placed-snoc, Full, Trail, trail-snoc, trail-init, trail-last, trail-map, Readies, trail-lt, trail-size, trail-keeps}
+use Rattle.orders.proofs.TrailLaws.{placed, placed-snoc, Full, Trail, trail-snoc, trail-init, trail-last, trail-map, Readies, trail-keeps}
+use Rattle.orders.proofs.WayLaws.{Way, way-lt, way-full, way-size, depth-path, way-grown, way-inits, way-path, way-deep, way-on}
 
 -- all that can be placed at s, up to e, leads to marked sets
 abbrev pub Spent : Problem → ℕ → List ℕ → ℕ → ℕ → Type 0
@@ -53,9 +54,6 @@ full-tried : (P : Problem) (k : ℕ) (table : List ℕ) (s : ℕ) → Full k s �
 full-tried P k table s f d l r = absurd (r .fresh (f d l))
 
 module _ {P : Problem} {k : ℕ} {table₀ path₀ : List ℕ} (st : Starting P k table₀ path₀) where
-  inits-lt : full k < 2 ^ P .events
-  inits-lt = let p = pow-pos k in let q : 2 ^ k ≤ 2 ^ P .events = pow-mono (st .inits) in omega arith
-
   pub stand-start : Stand P k table₀ table₀ path₀ (full k) 0 k
   stand-start =
       record {
@@ -72,30 +70,29 @@ module _ {P : Problem} {k : ℕ} {table₀ path₀ : List ℕ} (st : Starting P 
       }
 
   module _ {table path : List ℕ} {s depth from : ℕ} (g : Stand P k table₀ table path s depth from) where
+    pub way : Way P k path s depth
+    way = record { cells = g .cells; depth-le = g .depth-le; at = g .at; trail = g .trail }
+
     pub stand-lt : s < 2 ^ P .events
-    stand-lt = subst (λ (x : ℕ). x < 2 ^ P .events) (sym (g .at)) (trail-lt P (take depth path) (full k) (g .trail) inits-lt)
+    stand-lt = way-lt (st .inits) (st .events) way
 
     pub stand-full : Full k s
-    stand-full d h = subst (λ (x : ℕ). Has x d) (sym (g .at)) (trail-keeps P (take depth path) (full k) d (mem-full k d h))
-
-    depth-path : depth ≤ length path
-    depth-path = let h = g .cells in let j = g .depth-le in omega arith
+    stand-full = way-full (st .inits) (st .events) way
 
     pub stand-size : count (mem s) (P .events) ≡ k + depth
-    stand-size =
-        let a = ap (λ (x : ℕ). count (mem x) (P .events)) (g .at) ∙ trail-size P (take depth path) (full k) (g .trail) in
-        let b = size-first k (P .events) (st .inits) in
-        let c = length-take-le depth path depth-path in
-        omega arith
+    stand-size = way-size (st .inits) (st .events) way
+
+    stand-path : depth ≤ length path
+    stand-path = depth-path (st .inits) (st .events) way
 
     -- ---- on: an event that can be placed
 
     module _ {e : ℕ} (r : Ready P (Has s) e) where
       pub grown : insert s e < 2 ^ P .events
-      grown = insert-lt (P .events) s e stand-lt (r .event)
+      grown = way-grown (st .inits) (st .events) way r
 
       pub grown-full : Full k (insert s e)
-      grown-full d h = insert-old s e d (stand-full d h)
+      grown-full = way-inits (st .inits) (st .events) way r
 
       pub place-lt : above (insert s e) k < 2 ^ (P .events - k)
       place-lt = above-lt k (P .events) (insert s e) (st .inits) grown
@@ -106,25 +103,8 @@ module _ {P : Problem} {k : ℕ} {table₀ path₀ : List ℕ} (st : Starting P 
       pub spot-table : above (insert s e) k / 8 < length table
       spot-table = let a = spot in let b = g .size in let c = st .room in omega arith
 
-      more : Readies P (full k) (take depth path ++ e ∷ [])
-      more = trail-snoc _ (take depth path) (full k) e (g .trail) (subst (λ (x : ℕ). Ready P (Has x) e) (g .at) r)
-
-      more-at : insert s e ≡ placed (full k) (take depth path ++ e ∷ [])
-      more-at = ap (λ (x : ℕ). insert x e) (g .at) ∙ sym (placed-snoc (take depth path) (full k) e)
-
-      pub next-deep : k + depth < P .events
-      next-deep =
-          let a = ap (λ (x : ℕ). count (mem x) (P .events)) more-at ∙ trail-size P (take depth path ++ e ∷ []) (full k) more in
-          let b = size-first k (P .events) (st .inits) in
-          let c = length-take-le depth path depth-path in
-          let d = length-append (take depth path) (e ∷ []) in
-          let f = count-le (mem (insert s e)) (P .events) in
-          omega arith
-
       pub next-path : take depth path ++ e ∷ [] ≡ take (depth + 1) (set path depth e)
-      next-path =
-          let l : depth < length path = let h = g .cells in let j = next-deep in let q = st .events in omega arith in
-          sym (take-suc-set path depth e l) ∙ ap (λ (n : ℕ). take n (set path depth e)) (sym (add-one depth))
+      next-path = way-path (st .inits) (st .events) way r
 
     -- the lowest event that leads to a set not marked
     module _ {e : ℕ} (h : e < P .events) (n : NextIs P k table s e) where
@@ -144,9 +124,9 @@ module _ {P : Problem} {k : ℕ} {table₀ path₀ : List ℕ} (st : Starting P 
             size = length-marking table (above (insert s e) k) ∙ g .size;
             cells = simp length-set (g .cells);
             rest = drop-marking (bytesFor (P .events - k)) table (above (insert s e) k) (spot r) ∙ g .rest;
-            depth-le = let j = next-deep r in let q = st .events in omega arith;
-            at = more-at r ∙ ap (placed (full k)) (next-path r);
-            trail = subst (Readies P (full k)) (next-path r) (more r);
+            depth-le = way-on (st .inits) (st .events) way r .depth-le;
+            at = way-on (st .inits) (st .events) way r .at;
+            trail = way-on (st .inits) (st .events) way r .trail;
             spent = subst (Trail (Spent P k marks) (full k)) (next-path r)
                 (trail-snoc (Spent P k marks) (take depth path) (full k) e
                 (trail-map (Spent P k table) (Spent P k marks) (λ t d q x l y. keeps t x (q x l y)) (take depth path) (full k) (g .spent))
@@ -158,7 +138,7 @@ module _ {P : Problem} {k : ℕ} {table₀ path₀ : List ℕ} (st : Starting P 
 
       -- what a step on asks
       pub may-enter : (k < slots) × (e < slots) × (depth < length path)
-      may-enter = let c = g .cells in let d = next-deep (n .ready h) in let q = st .events in (omega arith, omega arith, omega arith)
+      may-enter = let c = g .cells in let d = way-deep (st .inits) (st .events) way (n .ready h) in let q = st .events in (omega arith, omega arith, omega arith)
 
       -- one set less that is not marked
       pub left-falls : left (P .events - k) (marking table (above (insert s e) k)) < left (P .events - k) table
@@ -175,7 +155,7 @@ module _ {P : Problem} {k : ℕ} {table₀ path₀ : List ℕ} (st : Starting P 
       pub last-path : take depth path ≡ take (depth - 1) path ++ getD path (depth - 1) 0 ∷ []
       last-path =
           let a : suc (depth - 1) ≡ depth = omega arith in
-          let l : depth - 1 < length path = let h = depth-path in omega arith in
+          let l : depth - 1 < length path = let h = stand-path in omega arith in
           ap (λ (n : ℕ). take n path) (sym a) ∙ take-suc path (depth - 1) 0 l
 
       less : Readies P (full k) (take (depth - 1) path ++ getD path (depth - 1) 0 ∷ [])
@@ -199,7 +179,7 @@ module _ {P : Problem} {k : ℕ} {table₀ path₀ : List ℕ} (st : Starting P 
 
       -- what a step back asks
       pub may-leave : depth - 1 < length path
-      may-leave = let h = depth-path in omega arith
+      may-leave = let h = stand-path in omega arith
 
       back-at : remove s (getD path (depth - 1) 0) ≡ placed (full k) (take (depth - 1) path)
       back-at =

@@ -7,3 +7,4 @@ pub mod Tables
 pub mod Answer
 pub mod Walk
 pub mod Promises
+pub mod Forced

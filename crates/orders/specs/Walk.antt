@@ -6,6 +6,7 @@
 --     NextIs P k table s r         r is the lowest event that can be placed after those of s and leads to a set that is not marked
 --     Starting P k table path      what a walk starts from: room for the events, the sets and the path, and no set marked
 --     Walked P k ..                the end of a walk: in the path, the first list of the others that can be placed, or that there is none
+--     Descended P k ..             the end of a walk without marks: where all are placed, the path has the first list too
 --     Searched P k ..              a walk with a clean scratch, cleaned again
 use Prim.Native.Nat.{ℕ, _-_, _^_, _<_, _≤_}
 use mathlib.Core.Path.{_≡_}
@@ -44,6 +45,9 @@ pub record Walked (P : Problem) (k : ℕ) (table : List ℕ) (r : Bool) (table�
   pub none : r ≡ false → Dead P (Below k)
   pub size : length table′ ≡ length table
   pub rest : drop (bytesFor (P .events - k)) table′ ≡ drop (bytesFor (P .events - k)) table
+
+pub record Descended (P : Problem) (k : ℕ) (r : Bool) (path′ : List ℕ) : Type 0 where
+  pub found : r ≡ true → FirstOf (Runs P (Below k)) (take (P .events - k) path′)
 
 pub record Searched (P : Problem) (k : ℕ) (scratch : List ℕ) (r : Bool) (scratch′ path′ : List ℕ) : Type 0 where
   pub clean : scratch′ ≡ cleared (bytesFor (P .events - k)) scratch

@@ -6,15 +6,17 @@
 use gather::PAIRS;
 use sets::SLOTS;
 ghost use mathlib.Core.Path.{_≡_};
-ghost use mathlib.Core.List.{_++_};
+ghost use mathlib.Core.List.{[], _++_};
 ghost use Prim.Native.Nat.{_+_, _-_, _<_, _≤_};
-ghost use lib.ListN.{length, getD, take, drop};
+ghost use lib.ListN.{length, getD, take, drop, replicate};
 ghost use Rattle.basis.specs.Test.{from};
 ghost use Rattle.sets.specs.Tells.{Tells};
 ghost use Rattle.sets.specs.Mask.{slots};
 ghost use Rattle.orders.specs.Tables.{tabled};
 ghost use Rattle.orders.specs.Answer.{Fits, Told, Answered};
-ghost use Rattle.orders.specs.Walk.{Gathered, Starting, Walked, Searched};
+ghost use Rattle.gather.specs.Writers.{Writers};
+ghost use Rattle.orders.specs.Walk.{Gathered, Starting, Walked, Descended, Searched};
+ghost use Rattle.orders.specs.Forced.{Forced, Led, Waited, Cyclic, Pressed};
 
 // ---- a walk through the sets
 
@@ -55,6 +57,205 @@ fn walk(
     true
 }
 
+// The same without marks and without a step back: always to the lowest event that can be placed, until all are or none can. The table is empty.
+fn descend(
+    k: usize,
+    m: usize,
+    before: &[u32; SLOTS],
+    bars: &[u32; PAIRS],
+    writers: &[u32; SLOTS],
+    table: &[u8],
+    path: &mut [u8],
+) -> bool
+    requires { ⌜ (k ≤ m) × (m ≤ slots) × (slots ≤ length (now path)) × (now table ≡ []) × Gathered m (now bars) (now writers) ⌝ }
+    ensures { λ r. ⌜ Descended (tabled m (now (before .entry)) (now (bars .entry))) k r (now (path .exit)) ⌝ }
+{
+    let all = sets::full(m);
+    let mut s = sets::full(k);
+    let mut depth: usize = 0;
+    while s != all {
+        let e = placing::next(k, m, before, bars, writers, table, s, k);
+        if m <= e {
+            return false;
+        }
+        path[depth] = e as u8;
+        s = sets::with(s, e);
+        depth += 1;
+    }
+    true
+}
+
+// ---- what bars force
+
+// At first each event waits for what has to come before it, an init for nothing.
+fn lead(k: usize, m: usize, before: &[u32; SLOTS], f: &mut [u32])
+    requires { ⌜ (k ≤ m) × (m ≤ slots) × (now f ≡ replicate slots 0) ⌝ }
+    ensures { λ _. ⌜ Led k m (now (before .entry)) (now (f .exit)) ⌝ }
+{
+    for e in k..m {
+        f[e] = before[e];
+    }
+}
+
+// Whether some member of the set m waits for v.
+fn waited(m: u32, v: usize, f: &[u32]) -> bool
+    requires { ⌜ (v < slots) × (slots ≤ length (now f)) ⌝ }
+    ensures { λ r. ⌜ Waited m v (now (f .entry)) r ⌝ }
+{
+    let mut left = m;
+    while left != 0 {
+        let r = sets::lowest(left);
+        if sets::has(f[r], v) {
+            return true;
+        }
+        left = sets::without(left, r);
+    }
+    false
+}
+
+// The bars (R, w, v), all R. Where w is placed before v, each R has to be; where v has to be placed before one of them, it has to be before w.
+fn press(
+    k: usize,
+    m: usize,
+    before: &[u32; SLOTS],
+    bars: &[u32; PAIRS],
+    v: usize,
+    w: usize,
+    f: &mut [u32],
+)
+    requires { ⌜ Forced (tabled m (now before) (now bars)) k (now before) (now f) × (k ≤ v) × (v < m) × (w < m) × (m ≤ slots) ⌝ }
+    ensures { λ _. ⌜ Forced (tabled m (now (before .entry)) (now (bars .entry))) k (now (before .entry)) (now (f .exit)) ⌝ }
+{
+    let readers = bars[v * SLOTS + w];
+    if (w < k) | sets::has(f[v], w) {
+        f[v] = f[v] | readers;
+        return;
+    }
+    if w == v {
+        return;
+    }
+    if waited(readers, v, f) {
+        f[w] = sets::with(f[w], v);
+    }
+}
+
+// The bars of v, for each of its writers.
+fn press_event(
+    k: usize,
+    m: usize,
+    before: &[u32; SLOTS],
+    bars: &[u32; PAIRS],
+    writers: u32,
+    v: usize,
+    f: &mut [u32],
+)
+    requires { ⌜ Forced (tabled m (now before) (now bars)) k (now before) (now f) × (k ≤ v) × (v < m) × (m ≤ slots) × Writers m (now bars) v writers ⌝ }
+    ensures { λ _. ⌜ Forced (tabled m (now (before .entry)) (now (bars .entry))) k (now (before .entry)) (now (f .exit)) ⌝ }
+{
+    let mut left = writers;
+    while left != 0 {
+        let w = sets::lowest(left);
+        press(k, m, before, bars, v, w, f);
+        left = sets::without(left, w);
+    }
+}
+
+// All bars once, and then what waits for one that waits.
+fn press_all(
+    k: usize,
+    m: usize,
+    before: &[u32; SLOTS],
+    bars: &[u32; PAIRS],
+    writers: &[u32; SLOTS],
+    f: &mut [u32],
+)
+    requires { ⌜ Forced (tabled m (now before) (now bars)) k (now before) (now f) × (k ≤ m) × (m ≤ slots) × Gathered m (now bars) (now writers) ⌝ }
+    ensures { λ _. ⌜ Forced (tabled m (now (before .entry)) (now (bars .entry))) k (now (before .entry)) (now (f .exit)) ⌝ }
+{
+    for v in k..m {
+        press_event(k, m, before, bars, writers[v], v, f);
+    }
+    closing::close(f, m);
+}
+
+// Whether some event waits for itself.
+fn cyclic(k: usize, m: usize, f: &[u32]) -> bool
+    requires { ⌜ (m ≤ slots) × (slots ≤ length (now f)) ⌝ }
+    ensures { λ r. ⌜ Cyclic k m (now (f .entry)) r ⌝ }
+{
+    for v in k..m {
+        if sets::has(f[v], v) {
+            return true;
+        }
+    }
+    false
+}
+
+// How much there is in the first m masks.
+fn weight(m: usize, f: &[u32]) -> u32
+    requires { ⌜ m ≤ length (now f) ⌝ }
+{
+    let mut n: u32 = 0;
+    for v in 0..m {
+        n = std::num::wrapping_add_u32(n, u32::count_ones(f[v]));
+    }
+    n
+}
+
+// How often the bars are pressed at most. Mostly two or three times are enough.
+const ROUNDS: usize = 8;
+
+// The bars again and again, until nothing is new: whether some event then waits for itself, so that no way is left.
+fn press_on(
+    k: usize,
+    m: usize,
+    before: &[u32; SLOTS],
+    bars: &[u32; PAIRS],
+    writers: &[u32; SLOTS],
+    f: &mut [u32],
+) -> bool
+    requires { ⌜ Forced (tabled m (now before) (now bars)) k (now before) (now f) × (k ≤ m) × (m ≤ slots) × Gathered m (now bars) (now writers) ⌝ }
+    ensures { λ r. ⌜ Pressed (tabled m (now (before .entry)) (now (bars .entry))) k (now (before .entry)) r (now (f .exit)) ⌝ }
+{
+    let mut had = weight(m, f);
+    let mut round: usize = 0;
+    while round < ROUNDS {
+        press_all(k, m, before, bars, writers, f);
+        if cyclic(k, m, f) {
+            return true;
+        }
+        let has = weight(m, f);
+        if has == had {
+            return false;
+        }
+        had = has;
+        round += 1;
+    }
+    false
+}
+
+// With so few events that are no inits all ways are soon gone.
+const FEW: usize = 5;
+
+// What bars force, into a table of zeros: whether some event then waits for itself, so that no way is left.
+fn force(
+    k: usize,
+    m: usize,
+    before: &[u32; SLOTS],
+    bars: &[u32; PAIRS],
+    writers: &[u32; SLOTS],
+    f: &mut [u32],
+) -> bool
+    requires { ⌜ (k ≤ m) × (m ≤ slots) × (now f ≡ replicate slots 0) × Gathered m (now bars) (now writers) ⌝ }
+    ensures { λ r. ⌜ Pressed (tabled m (now (before .entry)) (now (bars .entry))) k (now (before .entry)) r (now (f .exit)) ⌝ }
+{
+    lead(k, m, before, f);
+    if m - k <= FEW {
+        return false;
+    }
+    press_on(k, m, before, bars, writers, f)
+}
+
 // ---- answers
 
 // Whether a search takes these numbers of inits and events and that much scratch.
@@ -86,7 +287,14 @@ fn search(
     gather::gather(m, bars, &mut writers);
     let need = marks::needed(m - k);
     marks::clear(scratch, need); // whatever it held
-    let found = walk(k, m, before, bars, &writers, scratch, path);
+    if descend(k, m, before, bars, &writers, &scratch[..0], path) {
+        return true;
+    }
+    let mut f = [0u32; SLOTS];
+    if force(k, m, before, bars, &writers, &mut f) {
+        return false;
+    }
+    let found = walk(k, m, &f, bars, &writers, scratch, path);
     marks::clear(scratch, need); // the marks of this search
     found
 }

@@ -1,1 +1,2 @@
+pub mod KeysLaws
 pub mod RangesLaws

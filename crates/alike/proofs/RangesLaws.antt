@@ -1,164 +1,143 @@
 -- The laws of specs/Ranges.antt. Assumes nothing.
---     hits-apart, hits-start                two accesses with other starts, with one start
---     among-none, among-some                a slot that holds no sc access, one that does
---     start-gains, start-keeps, starts-none, starts-length     the starts of the writing sc accesses, slot by slot
---     equals-mem                            the sets of equal ranges, event by event
-use mathlib.Core.Path.{_≡_, refl, sym, ap, _∙_, subst}
+--     writers-one           a member of writersIn
+--     matched-length        no mask more
+--     equals-mem            the sets of equal ranges, event by event
+use mathlib.Core.Path.{_≡_, refl, sym, ap, _∙_}
 use mathlib.Core.Bool.{Bool, true, false, cond}
-use mathlib.Core.Logic.{_⊎_, ⊎-elim}
+use mathlib.Core.Logic.{⊎-elim}
 use mathlib.Core.List.{List}
-use Prim.Native.Nat.{ℕ, zero, suc, _+_, _*_, _/_, _%_, _≤_, _<_}
+use Prim.Native.Nat.{ℕ, zero, suc, _+_, _*_, _≤_, _<_}
 use native.Mathlib.Omega.{arith}
-use native.Mathlib.Decide.{ℕ-discrete}
-use borrow.Author.Tests.{eq-eqb, ne-eqb, eqb-true, ltb-true, ltb-false}
+use borrow.Author.Tests.{lt-ltb, le-ltb, ltb-true, ltb-false}
 use lib.Dec.{eqb, ltb}
 use lib.ListN.{length, getD, replicate, length-replicate, getD-replicate}
-use Rattle.basis.specs.Test.{_and_}
-use Rattle.basis.proofs.BoolLaws.{and-holds, and-fails, and-both, or-either, both-hold, and-false, and-swap, and-assoc, by-bool, not-both-ways}
+use Rattle.basis.specs.Test.{_and_, _or_}
+use Rattle.basis.proofs.BoolLaws.{and-holds, and-fails, and-both, and-assoc, both-hold, or-holds, or-fails, or-none, or-second, or-either, or-assoc, bar-or, by-bool, bool-ext, eqb-swap, below-next}
 use Rattle.format.specs.declared.Shape.{Shape}
 use Rattle.format.specs.Shape.{writes, sc, equal}
-use Rattle.sets.specs.Mask.{mem, Has}
-use Rattle.sets.proofs.MaskLaws.{mem-empty}
-use Rattle.sets.specs.Mask.{slots}
-use Rattle.cells.specs.Walk.{upTo, over, taking}
-use Rattle.cells.specs.Cells.{gaining}
-use Rattle.cells.proofs.WalkLaws.{mem-picked, over-picked}
-use Rattle.cells.proofs.CellsLaws.{gaining-length, gaining-back, gaining-keep, gaining-new, placing-at, placing-beyond}
+use Rattle.sets.specs.Mask.{slots, mem, Has, insert}
+use Rattle.sets.proofs.MaskLaws.{mem-empty, mem-insert}
+use Rattle.cells.specs.Walk.{upTo, onlyOf, over}
+use Rattle.cells.proofs.WalkLaws.{mem-picked}
+use Rattle.cells.proofs.CellsLaws.{placing-length, placing-at, placing-beyond}
 use Rattle.tables.specs.Tables.{accesses, shapeIn}
-use Rattle.alike.specs.Ranges.{hits, sharing, scWrites, bytes, startGains, startsIn, amongIn, equalsIn, matches}
+use Rattle.alike.specs.Ranges.{hits, sharing, scWrites, writersIn, asIn, match, spanOf, matchedIn, sideIn, equalsOn, equalsIn, matches}
 
-module _ (a b : Shape) where
-  pub hits-apart : (a .start ≡ b .start → ⊥) → false ≡ hits a b
-  unfolding hits equal _and_
-  hits-apart n = sym (ap (λ (z : Bool). sc a and writes a and z) (and-fails (eqb (a .start) (b .start)) _ (ne-eqb (a .start) (b .start) n)) ∙ ap (λ (z : Bool). sc a and z) (and-false (writes a)) ∙ and-false (sc a))
+module _ (t : List ℕ) (n b v : ℕ) where
+  writers-mem : mem (writersIn t n b) v ≡ (ltb v n and scWrites t (2 * v + b))
+  unfolding writersIn
+  writers-mem = mem-picked n (λ (d : ℕ). scWrites t (2 * d + b)) v
 
-  pub hits-start : a .start ≡ b .start → (eqb (a .width) (b .width) and (sc a and writes a)) ≡ hits a b
-  unfolding hits equal
-  hits-start e =
-      and-swap (eqb (a .width) (b .width)) (sc a and writes a) ∙ and-assoc (sc a) (writes a) (eqb (a .width) (b .width))
-      ∙ ap (λ (z : Bool). sc a and (writes a and z)) (sym (and-holds (eqb (a .start) (b .start)) _ (eq-eqb (a .start) (b .start) e)))
+  pub writers-one : Has (writersIn t n b) v → (v < n) × (scWrites t (2 * v + b) ≡ true)
+  writers-one h = let w = and-both (ltb v n) _ (sym writers-mem ∙ h) in (ltb-true v n (w .0), w .1)
 
--- what a hit is made of
-hits-parts : (a b : Shape) → hits a b ≡ true → ((sc a and writes a) ≡ true) × (a .start ≡ b .start)
-unfolding hits equal
-hits-parts a b h =
-    let p = and-both (sc a) _ h in
-    let q = and-both (writes a) _ (p .1) in
-    (both-hold (sc a) (writes a) (p .0) (q .0), eqb-true (a .start) (b .start) (and-both (eqb (a .start) (b .start)) _ (q .1) .0))
+  pub matched-length : (l : List ℕ) → length (matchedIn t n b v l) ≡ length l
+  unfolding matchedIn
+  matched-length l = placing-length _ l (spanOf n l)
 
-writes-parts : (t : List ℕ) (k : ℕ) → (sc (shapeIn t k) and writes (shapeIn t k)) ≡ true → scWrites t k ≡ true
-unfolding scWrites
-writes-parts t k h = h
+-- a mask that gains v by a test
+gains-mem : (c : Bool) (m v d : ℕ) → mem (cond c (insert m v) m) d ≡ (mem m d or (c and eqb d v))
+unfolding _and_ _or_
+gains-mem true m v d = mem-insert m v d ∙ bar-or (mem m d) (eqb d v)
+gains-mem false m v d = sym (or-none (mem m d))
 
-sharing-parts : (t : List ℕ) (b : Shape) (v : ℕ) → sharing t b v ≡ true → (hits (shapeIn t (2 * v)) b ≡ true) ⊎ (hits (shapeIn t (2 * v + 1)) b ≡ true)
-unfolding sharing
-sharing-parts t b v h = or-either _ _ h
+module _ (t : List ℕ) (n b : ℕ) (few : n ≤ slots) (k : ℕ) (inside : k < accesses) where
+  matched-mem : (v d : ℕ) (l : List ℕ) → length l ≡ accesses → mem (getD (matchedIn t n b v l) k 0) d ≡ (mem (getD l k 0) d or (asIn t n (2 * v + b) k and eqb d v))
+  unfolding matchedIn asIn _and_
+  matched-mem v d l long =
+      by-bool (ltb k (spanOf n l))
+      (λ e. ap (λ (m : ℕ). mem m d) (placing-at (match (asIn t n (2 * v + b)) v l) l (spanOf n l) k (ltb-true k _ e) (omega arith)) ∙ gains-mem (asIn t n (2 * v + b) k) (getD l k 0) v d)
+      (λ e.
+      let z = ltb-false k _ e in
+      ap (λ (m : ℕ). mem m d) (placing-beyond (match (asIn t n (2 * v + b)) v l) l (spanOf n l) k z)
+      ∙ sym (ap (λ (x : Bool). mem (getD l k 0) d or (x and eqb d v)) (and-fails (ltb k (2 * n)) _ (le-ltb k (2 * n) (omega arith))) ∙ or-none (mem (getD l k 0) d)))
 
-module _ (t starts : List ℕ) (k : ℕ) where
-  abbrev near : ℕ
-  near = getD starts (shapeIn t k .start % bytes) 0
+  module _ (l : List ℕ) (long : length l ≡ accesses) where
+    abbrev after : ℕ → List ℕ
+    after j = upTo (onlyOf (writersIn t n b) (matchedIn t n b)) j l
 
-  pub among-none : sc (shapeIn t k) ≡ false → 0 ≡ amongIn t starts k
-  unfolding amongIn
-  among-none e = sym (ap (λ (b : Bool). cond b (over near (taking (sharing t (shapeIn t k))) 0) 0) e)
+    after-length : (j : ℕ) → length (after j) ≡ accesses
+    unfolding upTo
+    after-length zero = long
+    after-length (suc j) = go (mem (writersIn t n b) j) ∙ after-length j
+      where
+        go : (c : Bool) → length (cond c (matchedIn t n b j (after j)) (after j)) ≡ length (after j)
+        go true = matched-length t n b j (after j)
+        go false = refl
 
-  pub among-some : sc (shapeIn t k) ≡ true → over near (taking (sharing t (shapeIn t k))) 0 ≡ amongIn t starts k
-  unfolding amongIn
-  among-some e = sym (ap (λ (b : Bool). cond b (over near (taking (sharing t (shapeIn t k))) 0) 0) e)
+    -- event d writes sc with the range of slot k
+    abbrev gets : ℕ → Bool
+    gets d = mem (writersIn t n b) d and asIn t n (2 * d + b) k
 
--- ---- the starts, slot by slot
+    one-more : (c : Bool) (j d : ℕ) (r : List ℕ) → length r ≡ accesses → mem (getD (cond c (matchedIn t n b j r) r) k 0) d ≡ (mem (getD r k 0) d or ((c and asIn t n (2 * j + b) k) and eqb j d))
+    unfolding _and_ _or_
+    one-more true j d r h = matched-mem j d r h ∙ ap (λ (x : Bool). mem (getD r k 0) d or (asIn t n (2 * j + b) k and x)) (eqb-swap d j)
+    one-more false j d r h = sym (or-none (mem (getD r k 0) d))
 
-module _ (t : List ℕ) (k : ℕ) (l : List ℕ) where
-  pub start-gains : scWrites t k ≡ true → startGains t k l ≡ gaining l (shapeIn t k .start % bytes) (k / 2)
-  unfolding startGains
-  start-gains h = ap (λ (b : Bool). cond b (gaining l (shapeIn t k .start % bytes) (k / 2)) l) h
+    after-mem : (d j : ℕ) → mem (getD (after j) k 0) d ≡ (mem (getD l k 0) d or (ltb d j and gets d))
+    unfolding upTo _or_
+    after-mem d zero = sym (ap (λ (z : Bool). mem (getD l k 0) d or z) (and-fails (ltb d 0) _ (le-ltb d 0 (omega arith))) ∙ or-none (mem (getD l k 0) d))
+    after-mem d (suc j) =
+        one-more (mem (writersIn t n b) j) j d (after j) (after-length j)
+        ∙ ap (λ (z : Bool). z or (gets j and eqb j d)) (after-mem d j)
+        ∙ or-assoc (mem (getD l k 0) d) (ltb d j and gets d) (gets j and eqb j d)
+        ∙ ap (λ (z : Bool). mem (getD l k 0) d or z) (below-next gets j d)
 
-  pub start-keeps : scWrites t k ≡ false → startGains t k l ≡ l
-  unfolding startGains
-  start-keeps h = ap (λ (b : Bool). cond b (gaining l (shapeIn t k .start % bytes) (k / 2)) l) h
+    side-length : length (sideIn t n b l) ≡ accesses
+    unfolding sideIn over
+    side-length = after-length slots
 
-  pub start-length : length (startGains t k l) ≡ length l
-  start-length = by-bool (scWrites t k) (λ h. ap length (start-gains h) ∙ gaining-length l (shapeIn t k .start % bytes) (k / 2)) (λ h. ap length (start-keeps h))
-
-module _ (t : List ℕ) (l : List ℕ) where
-  pub starts-none : l ≡ upTo (startGains t) 0 l
-  unfolding upTo
-  starts-none = refl
-
-  pub starts-length : (k : ℕ) → length (upTo (startGains t) k l) ≡ length l
-  unfolding upTo
-  starts-length zero = refl
-  starts-length (suc k) = start-length t k (upTo (startGains t) k l) ∙ starts-length k
-
--- who starts at a byte is below n, and each writing sc access of an event is at its start
-module _ (t : List ℕ) (a v : ℕ) (inside : a < bytes) where
-  abbrev from-empty : ℕ → List ℕ
-  from-empty k = upTo (startGains t) k (replicate bytes 0)
-
-  room : (k : ℕ) → a < length (from-empty k)
-  room k = let z = starts-length t (replicate bytes 0) k in let y = length-replicate {A = ℕ} bytes 0 in omega arith
-
-  starts-inside : (n k : ℕ) → k ≤ 2 * n → Has (getD (from-empty k) a 0) v → v < n
-  unfolding upTo
-  starts-inside n zero h g = absurd (not-both-ways g (ap (λ (i : ℕ). mem i v) (getD-replicate bytes a 0 0 inside) ∙ mem-empty v))
-  starts-inside n (suc k) h g =
-      by-bool (scWrites t k)
-      (λ c. ⊎-elim (λ f. starts-inside n k (omega arith) f) (λ f. let z = f .1 in omega arith)
-      (gaining-back (from-empty k) (shapeIn t k .start % bytes) (k / 2) a v (room k) (subst (λ (x : List ℕ). Has (getD x a 0) v) (start-gains t k (from-empty k) c) g)))
-      (λ c. starts-inside n k (omega arith) (subst (λ (x : List ℕ). Has (getD x a 0) v) (start-keeps t k (from-empty k) c) g))
-
-  starts-more : (k : ℕ) → Has (getD (from-empty k) a 0) v → Has (getD (startGains t k (from-empty k)) a 0) v
-  starts-more k g =
-      by-bool (scWrites t k)
-      (λ c. subst (λ (x : List ℕ). Has (getD x a 0) v) (sym (start-gains t k (from-empty k) c)) (gaining-keep (from-empty k) (shapeIn t k .start % bytes) (k / 2) a v (room k) g))
-      (λ c. subst (λ (x : List ℕ). Has (getD x a 0) v) (sym (start-keeps t k (from-empty k) c)) g)
-
-  starts-whole : (k j : ℕ) → j < k → scWrites t j ≡ true → shapeIn t j .start % bytes ≡ a → j / 2 ≡ v → Has (getD (from-empty k) a 0) v
-  unfolding upTo
-  starts-whole zero j h c e f = absurd (omega arith)
-  starts-whole (suc k) j h c e f = go (ℕ-discrete j k) (starts-whole k j)
-    where
-      go : Dec (j ≡ k) → (j < k → scWrites t j ≡ true → shapeIn t j .start % bytes ≡ a → j / 2 ≡ v → Has (getD (from-empty k) a 0) v)
-          → Has (getD (startGains t k (from-empty k)) a 0) v
-      go (no z) ih = starts-more k (ih (omega (arith, z)) c e f)
-      go (yes z) ih =
-          subst (λ (x : List ℕ). Has (getD x a 0) v) (sym (start-gains t k (from-empty k) (subst (λ (i : ℕ). scWrites t i ≡ true) z c)))
-          (gaining-new (from-empty k) (shapeIn t k .start % bytes) (k / 2) a v (room k) (subst (λ (i : ℕ). shapeIn t i .start % bytes ≡ a) z e) (subst (λ (i : ℕ). i / 2 ≡ v) z f))
+    side-mem : (d : ℕ) → mem (getD (sideIn t n b l) k 0) d ≡ (mem (getD l k 0) d or (ltb d slots and gets d))
+    unfolding sideIn over
+    side-mem d = after-mem d slots
 
 -- the sets of equal ranges, event by event
 module _ (t : List ℕ) (n : ℕ) (few : n ≤ slots) (k : ℕ) (v : ℕ) where
-  abbrev by-start : List ℕ
-  by-start = startsIn t n (replicate bytes 0)
+  abbrev side : ℕ → Bool
+  side b = ltb v slots and (mem (writersIn t n b) v and asIn t n (2 * v + b) k)
 
-  among-mem : mem (amongIn t by-start k) v ≡ (ltb v n and (sc (shapeIn t k) and sharing t (shapeIn t k) v))
-  unfolding startsIn
-  among-mem =
-      by-bool (sc (shapeIn t k))
-      (λ e. ap (λ (m : ℕ). mem m v) (sym (among-some t by-start k e) ∙ over-picked n (getD by-start (shapeIn t k .start % bytes) 0) (sharing t (shapeIn t k)) few inside whole)
-      ∙ mem-picked n (sharing t (shapeIn t k)) v ∙ ap (λ (z : Bool). ltb v n and z) (sym (and-holds (sc (shapeIn t k)) _ e)))
-      (λ e. ap (λ (m : ℕ). mem m v) (sym (among-none t by-start k e)) ∙ mem-empty v
-      ∙ sym (ap (λ (z : Bool). ltb v n and z) (and-fails (sc (shapeIn t k)) _ e) ∙ and-false (ltb v n)))
-    where
-      inside : (d : ℕ) → mem (getD by-start (shapeIn t k .start % bytes) 0) d ≡ true → d < n
-      inside d h = starts-inside t (shapeIn t k .start % bytes) d (omega arith) n (2 * n) (omega arith) h
+  side-back : (b : ℕ) → side b ≡ true → (v < n) × (ltb k (2 * n) ≡ true) × (sc (shapeIn t k) ≡ true) × (hits (shapeIn t (2 * v + b)) (shapeIn t k) ≡ true)
+  unfolding scWrites asIn hits
+  side-back b h =
+      let p = and-both (mem (writersIn t n b) v) _ (and-both (ltb v slots) _ h .1) in
+      let w = writers-one t n b v (p .0) in
+      let q = and-both (ltb k (2 * n)) _ (p .1) in
+      let r = and-both (sc (shapeIn t k)) _ (q .1) in
+      let u = and-both (sc (shapeIn t (2 * v + b))) _ (w .1) in
+      (w .0, q .0, r .0, both-hold _ _ (u .0) (both-hold _ _ (u .1) (r .1)))
 
-      one : (d j : ℕ) → j < 2 * n → j / 2 ≡ d → hits (shapeIn t j) (shapeIn t k) ≡ true → mem (getD by-start (shapeIn t k .start % bytes) 0) d ≡ true
-      one d j l f h =
-          let p = hits-parts (shapeIn t j) (shapeIn t k) h in
-          starts-whole t (shapeIn t k .start % bytes) d (omega arith) (2 * n) j l (writes-parts t j (p .0)) (ap (λ (i : ℕ). i % bytes) (p .1)) f
+  side-forth : (b : ℕ) → v < n → ltb k (2 * n) ≡ true → sc (shapeIn t k) ≡ true → hits (shapeIn t (2 * v + b)) (shapeIn t k) ≡ true → side b ≡ true
+  unfolding scWrites asIn hits
+  side-forth b l h s g =
+      let u = and-both (sc (shapeIn t (2 * v + b))) _ g in
+      let w = and-both (writes (shapeIn t (2 * v + b))) _ (u .1) in
+      both-hold _ _ (lt-ltb v slots (omega arith))
+      (both-hold _ _ (writers-mem t n b v ∙ both-hold _ _ (lt-ltb v n l) (both-hold _ _ (u .0) (w .0)))
+      (both-hold _ _ h (both-hold _ _ s (w .1))))
 
-      whole : (d : ℕ) → d < n → sharing t (shapeIn t k) d ≡ true → mem (getD by-start (shapeIn t k .start % bytes) 0) d ≡ true
-      whole d l h =
-          ⊎-elim (λ g. one d (2 * d) (omega arith) (omega arith) g) (λ g. one d (2 * d + 1) (omega arith) (omega arith) g) (sharing-parts t (shapeIn t k) d h)
+  none-more : hits (shapeIn t (2 * v + 0)) (shapeIn t k) ≡ hits (shapeIn t (2 * v)) (shapeIn t k)
+  none-more = let z : 2 * v + 0 ≡ 2 * v = omega arith in ap (λ (i : ℕ). hits (shapeIn t i) (shapeIn t k)) z
+
+  sides : (side 0 or side 1) ≡ (ltb v n and matches t n k v)
+  unfolding matches sharing
+  sides =
+      bool-ext _ _
+      (λ h. ⊎-elim
+      (λ g. let w = side-back 0 g in both-hold _ _ (lt-ltb v n (w .0)) (both-hold _ _ (w .1) (both-hold _ _ (w .2) (or-holds _ _ (sym none-more ∙ w .3)))))
+      (λ g. let w = side-back 1 g in both-hold _ _ (lt-ltb v n (w .0)) (both-hold _ _ (w .1) (both-hold _ _ (w .2) (or-second _ _ (w .3)))))
+      (or-either _ _ h))
+      (λ h.
+      let a = and-both (ltb v n) _ h in
+      let b = and-both (ltb k (2 * n)) _ (a .1) in
+      let c = and-both (sc (shapeIn t k)) _ (b .1) in
+      let l = ltb-true v n (a .0) in
+      ⊎-elim (λ g. or-holds _ _ (side-forth 0 l (b .0) (c .0) (none-more ∙ g))) (λ g. or-second _ _ (side-forth 1 l (b .0) (c .0) g)) (or-either _ _ (c .1)))
 
   pub equals-mem : k < accesses → mem (getD (equalsIn t n) k 0) v ≡ (ltb v n and matches t n k v)
-  unfolding equalsIn matches
+  unfolding equalsIn equalsOn
   equals-mem h =
-      by-bool (ltb k (2 * n))
-      (λ e.
       let long = length-replicate {A = ℕ} accesses 0 in
-      ap (λ (m : ℕ). mem m v) (placing-at (amongIn t by-start) (replicate accesses 0) (2 * n) k (ltb-true k (2 * n) e) (omega arith)) ∙ among-mem
-      ∙ ap (λ (z : Bool). ltb v n and z) (sym (and-holds (ltb k (2 * n)) _ e)))
-      (λ e.
-      ap (λ (m : ℕ). mem m v) (placing-beyond (amongIn t by-start) (replicate accesses 0) (2 * n) k (ltb-false k (2 * n) e) ∙ getD-replicate accesses k 0 0 h) ∙ mem-empty v
-      ∙ sym (ap (λ (z : Bool). ltb v n and z) (and-fails (ltb k (2 * n)) _ e) ∙ and-false (ltb v n)))
+      side-mem t n 1 few k h (sideIn t n 0 (replicate accesses 0)) (side-length t n 0 few k h (replicate accesses 0) long) v
+      ∙ ap (λ (z : Bool). z or side 1) (side-mem t n 0 few k h (replicate accesses 0) long v
+      ∙ or-fails _ _ (ap (λ (m : ℕ). mem m v) (getD-replicate accesses k 0 0 h) ∙ mem-empty v))
+      ∙ sides

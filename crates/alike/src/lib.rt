@@ -1,5 +1,4 @@
-// Equal ranges by masks: for each sc access the set of the events that have a writing sc access with its range. No function has a `requires`.
-use cells::gain;
+// Equal ranges by masks: for each sc access the set of the events that have a writing sc access with its range. The public function has no `requires`.
 use cells::place;
 use cells::take;
 use format::Shape;
@@ -8,94 +7,77 @@ use sets::least;
 use tables::ACCESSES;
 use tables::COLUMNS;
 ghost use mathlib.Core.Path.{_≡_};
-ghost use Prim.Native.Nat.{_*_, _%_, min};
-ghost use lib.ListN.{replicate};
+ghost use mathlib.Core.Bool.{Bool};
+ghost use Prim.Native.Nat.{ℕ, _*_, _%_, min};
+ghost use lib.Dec.{eqb};
+ghost use lib.ListN.{length, getD, replicate};
 ghost use Rattle.sets.specs.Mask.{slots};
-ghost use Rattle.cells.specs.Walk.{over, taking};
 ghost use Rattle.cells.specs.Cells.{placing};
 ghost use Rattle.tables.specs.Tables.{accesses};
-ghost use Rattle.alike.specs.Ranges.{hits, sharing, bytes, startGains, startsIn, amongIn};
+ghost use Rattle.alike.specs.Ranges.{writersIn, match, sideIn, equalsOn};
+ghost use Rattle.alike.specs.steps.Keys.{Keyed, KeysIn};
 
-// The flat bytes: four regions of 64.
-const BYTES: usize = 256;
-
-// Is a a writing sc access with the range of b?
-fn hits(a: Shape, b: Shape) -> bool
-    ensures { λ r. ⌜ r ≡ hits a b ⌝ }
+// A number for the range of an sc access: equal ranges have equal numbers, others have not. 0 for an access that is not sc.
+fn key(a: Shape) -> u32
+    ensures { λ r. ⌜ Keyed a r ⌝ }
 {
-    if a.start != b.start {
-        return false;
-    }
-    (a.width == b.width) & (access::sc(a) & access::writes(a))
+    let x = a.start as u32 * 256 + a.width as u32 + 1;
+    if access::sc(a) { x } else { 0 }
 }
 
-// Has event v a writing sc access with the range of b?
-fn shares(t: &[u8; COLUMNS], b: Shape, v: usize) -> bool
-    ensures { λ r. ⌜ r ≡ sharing (now (t .entry)) b (v % slots) ⌝ }
-{
-    let i = 2 * (v % SLOTS);
-    if hits(tables::shape(t, i), b) {
-        return true;
-    }
-    hits(tables::shape(t, i + 1), b)
-}
-
-// The mask at the start of the access in slot k gains its event, where it writes sc.
-fn note(t: &[u8; COLUMNS], k: usize, starts: &mut [u32])
-    ensures { λ _. ⌜ now (starts .exit) ≡ startGains (now (t .entry)) (k % accesses) (now (starts .entry)) ⌝ }
-{
-    let a = tables::shape(t, k);
-    let noted = access::sc(a) & access::writes(a);
-    if !noted {
-        return;
-    }
-    gain(starts, a.start as usize % BYTES, k % ACCESSES / 2);
-}
-
-// The masks at the starts of all writing sc accesses of the events below n; n counts up to the slots.
-fn starts(t: &[u8; COLUMNS], n: usize, masks: &mut [u32])
-    ensures { λ _. ⌜ now (masks .exit) ≡ startsIn (now (t .entry)) (min n slots) (now (masks .entry)) ⌝ }
+// The keys of the accesses of the events below n; n counts up to the slots, and so below.
+fn keys(t: &[u8; COLUMNS], n: usize, keys: &mut [u32])
+    ensures { λ _. ⌜ KeysIn (now (t .entry)) (2 * min n slots) (now (keys .entry)) (now (keys .exit)) ⌝ }
 {
     let m = 2 * least(n, SLOTS);
     for k in 0..m {
-        note(t, k, masks);
+        place(keys, k, key(tables::shape(t, k)));
     }
 }
 
-// The events of the set m that have a writing sc access with the range of b.
-fn among(t: &[u8; COLUMNS], m: u32, b: Shape) -> u32
-    ensures { λ r. ⌜ r ≡ over m (taking (sharing (now (t .entry)) b)) 0 ⌝ }
+// The events below n whose first access, or second one where b is odd, writes sc.
+fn writers(t: &[u8; COLUMNS], n: usize, b: usize) -> u32
+    ensures { λ r. ⌜ r ≡ writersIn (now (t .entry)) (min n slots) (b % 2) ⌝ }
 {
+    let m = least(n, SLOTS);
     let mut s = 0;
-    let mut left = m;
-    while left != 0 {
-        let v = sets::lowest(left);
-        let hit = shares(t, b, v);
-        s = take(s, v, hit);
-        left = sets::without(left, v);
+    for v in 0..m {
+        let a = tables::shape(t, 2 * v + b % 2);
+        s = take(s, v, access::sc(a) & access::writes(a));
     }
     s
 }
 
-// The events that have one with the range of the access in slot k, where that is sc: only those that start there are looked at.
-fn equal(t: &[u8; COLUMNS], starts: &[u32; BYTES], k: usize) -> u32
-    ensures { λ r. ⌜ r ≡ amongIn (now (t .entry)) (now (starts .entry)) (k % accesses) ⌝ }
+// Each of the first n masks gains v where the key x stands; without a jump, and several masks at once.
+fn gains(keys: &[u32; ACCESSES], n: usize, x: u32, v: usize, eq: &mut [u32])
+    ensures { λ _. ⌜ now (eq .exit) ≡ placing (match (λ (k : ℕ). eqb (getD (now (keys .entry)) k 0) x) (v % slots) (now (eq .entry))) (min n (min accesses (length (now (eq .entry))))) (now (eq .entry)) ⌝ }
 {
-    let b = tables::shape(t, k);
-    if !access::sc(b) {
-        return 0;
+    let m = least(n, least(ACCESSES, eq.len()));
+    for k in 0..m {
+        eq[k] = take(eq[k], v, keys[k] == x);
     }
-    among(t, starts[b.start as usize % BYTES], b)
 }
 
-// The same for each slot of the events below n.
-pub fn equals(t: &[u8; COLUMNS], n: usize, eq: &mut [u32])
-    ensures { λ _. ⌜ now (eq .exit) ≡ placing (amongIn (now (t .entry)) (startsIn (now (t .entry)) (min n slots) (replicate bytes 0))) (2 * min n slots) (now (eq .entry)) ⌝ }
+// The mask of each slot gains the events whose first access, or second one where b is odd, writes sc with its range.
+fn side(t: &[u8; COLUMNS], keys: &[u32; ACCESSES], n: usize, b: usize, eq: &mut [u32])
+    requires { ⌜ KeysIn (now t) (2 * min n slots) (replicate accesses 0) (now keys) ⌝ }
+    ensures { λ _. ⌜ now (eq .exit) ≡ sideIn (now (t .entry)) (min n slots) (b % 2) (now (eq .entry)) ⌝ }
 {
-    let mut by_start = [0u32; BYTES];
-    starts(t, n, &mut by_start);
-    let m = 2 * least(n, SLOTS);
-    for k in 0..m {
-        place(eq, k, equal(t, &by_start, k));
+    let span = (least(n, SLOTS) + 3) / 4 * 8; // eight slots at a time; those beyond have no key
+    let mut left = writers(t, n, b);
+    while left != 0 {
+        let v = sets::lowest(left);
+        gains(keys, span, keys[2 * (v % SLOTS) + b % 2], v, eq);
+        left = sets::without(left, v);
     }
+}
+
+// The mask of each slot of the events below n gains the events of these that write sc with its range, where it is sc.
+pub fn equals(t: &[u8; COLUMNS], n: usize, eq: &mut [u32])
+    ensures { λ _. ⌜ now (eq .exit) ≡ equalsOn (now (t .entry)) (min n slots) (now (eq .entry)) ⌝ }
+{
+    let mut by_slot = [0u32; ACCESSES];
+    keys(t, n, &mut by_slot);
+    side(t, &by_slot, n, 0, eq);
+    side(t, &by_slot, n, 1, eq);
 }

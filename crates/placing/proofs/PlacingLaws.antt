@@ -1,5 +1,6 @@
 -- The laws of specs/Placing.antt: that two conforming answers agree. Assumes nothing.
 --     next-unique                      the next event
+--     lowest-unique                    the lowest that can be placed
 --     entered-unique                   a step on
 use Prim.Native.Nat.{ℕ, _<_}
 use mathlib.Core.Path.{_≡_, sym, _∙_}
@@ -7,7 +8,7 @@ use mathlib.Core.List.{List}
 use native.Mathlib.Omega.{arith}
 use native.Mathlib.Decide.{decLt}
 use Rattle.basis.proofs.BoolLaws.{not-both-ways}
-use Rattle.placing.specs.Placing.{NextFree, Entered}
+use Rattle.placing.specs.Placing.{NextFree, LowestFree, Entered}
 
 module _ {k m : ℕ} {before bars writers table : List ℕ} {s from : ℕ} where
   first : {r q : ℕ} → NextFree k m before bars writers table s from r → NextFree k m before bars writers table s from q → r < q → ⊥
@@ -22,6 +23,21 @@ module _ {k m : ℕ} {before bars writers table : List ℕ} {s from : ℕ} where
       go : Dec (r < q) → Dec (q < r) → r ≡ q
       go (yes l) h = absurd (first a b l)
       go (no l) (yes h) = absurd (first b a h)
+      go (no l) (no h) = omega (arith, l, h)
+
+module _ {m : ℕ} {before bars writers : List ℕ} {s from : ℕ} where
+  lower : {r q : ℕ} → LowestFree m before bars writers s from r → LowestFree m before bars writers s from q → r < q → ⊥
+  lower {r} a b l =
+      let z = b .bound in
+      let h : r < m = omega (arith, z) in
+      b .none r (a .place h .0) l (a .place h .1) (a .free h)
+
+  pub lowest-unique : {r q : ℕ} → LowestFree m before bars writers s from r → LowestFree m before bars writers s from q → r ≡ q
+  lowest-unique {r} {q} a b = go (decLt r q) (decLt q r)
+    where
+      go : Dec (r < q) → Dec (q < r) → r ≡ q
+      go (yes l) h = absurd (lower a b l)
+      go (no l) (yes h) = absurd (lower b a h)
       go (no l) (no h) = omega (arith, l, h)
 
 pub entered-unique : {k s e depth : ℕ} {table path : List ℕ} {r q : ℕ} {t u o p : List ℕ} → Entered k s e depth table path r t o

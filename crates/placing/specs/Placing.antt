@@ -5,6 +5,7 @@
 --     Free before bars c s v      v can be placed after the events of s; c has the writers of its bars
 --     isSeen k table s e          whether the table marks the set s with e
 --     NextFree k m .. s from r    r is the lowest event from `from` on, below m, that is free and leads to a set that is not marked, or m
+--     LowestFree m .. s from r    r is the lowest event from `from` on, below m, that is free, or m
 --     Entered k s e depth ..      a step on: the set with e, its mark, and e on the path
 use Prim.Native.Nat.{ℕ, _<_, _≤_}
 use mathlib.Core.Path.{_≡_}
@@ -33,6 +34,12 @@ pub record NextFree (k m : ℕ) (before bars writers table : List ℕ) (s from r
   pub free : r < m → Free before bars (getD writers r 0) s r
   pub unseen : r < m → isSeen k table s r ≡ false
   pub tried : (d : ℕ) → from ≤ d → d < r → d < slots → Free before bars (getD writers d 0) s d → isSeen k table s d ≡ true
+
+pub record LowestFree (m : ℕ) (before bars writers : List ℕ) (s from r : ℕ) : Type 0 where
+  pub bound : r ≤ m
+  pub place : r < m → (from ≤ r) × (r < slots)
+  pub free : r < m → Free before bars (getD writers r 0) s r
+  pub none : (d : ℕ) → from ≤ d → d < r → d < slots → Free before bars (getD writers d 0) s d → ⊥
 
 pub record Entered (k s e depth : ℕ) (table path : List ℕ) (r : ℕ) (table′ path′ : List ℕ) : Type 0 where
   pub grown : r ≡ insert s e

@@ -4,10 +4,12 @@
 // placed events is a mask; the table of entered sets looks a set up by its members from k up. No public function has a `requires`.
 use gather::PAIRS;
 use sets::SLOTS;
+ghost use mathlib.Core.Path.{_≡_};
+ghost use mathlib.Core.Bool.{false};
 ghost use Prim.Native.Nat.{_%_, _<_};
 ghost use Rattle.sets.specs.Tells.{Tells};
-ghost use Rattle.sets.specs.Mask.{slots};
-ghost use Rattle.placing.specs.Placing.{Unbarred, Free, NextFree, Entered};
+ghost use Rattle.sets.specs.Mask.{slots, mem};
+ghost use Rattle.placing.specs.Placing.{Unbarred, Free, NextFree, LowestFree, Entered};
 
 // Whether no bar forbids to place v after the events of the set s. Only the writers that have bars with v are looked at.
 fn unbarred(bars: &[u32; PAIRS], writers: u32, s: u32, v: usize) -> bool
@@ -25,14 +27,11 @@ fn unbarred(bars: &[u32; PAIRS], writers: u32, s: u32, v: usize) -> bool
     true
 }
 
-// Whether v can be placed next, after the events of the set s.
+// Whether v, which is not in the set s, can be placed next, after the events of s.
 fn may(before: &[u32; SLOTS], bars: &[u32; PAIRS], writers: u32, s: u32, v: usize) -> bool
-    requires { ⌜ v < slots ⌝ }
+    requires { ⌜ (v < slots) × (mem s v ≡ false) ⌝ }
     ensures { λ r. ⌜ Tells r (Free (now (before .entry)) (now (bars .entry)) writers s v) ⌝ }
 {
-    if sets::has(s, v) {
-        return false;
-    }
     if !sets::subset(before[v], s) {
         return false;
     }
@@ -62,6 +61,28 @@ pub fn next(
             }
         }
         left = sets::without(left, e);
+    }
+    m
+}
+
+// The lowest event from `from` on, below m, that can be placed after those of the set s, whatever it leads to; m if there is none.
+pub fn lowest(
+    m: usize,
+    before: &[u32; SLOTS],
+    bars: &[u32; PAIRS],
+    writers: &[u32; SLOTS],
+    s: u32,
+    from: usize,
+) -> usize
+    ensures { λ r. ⌜ LowestFree m (now (before .entry)) (now (bars .entry)) (now (writers .entry)) s from r ⌝ }
+{
+    let mut left = sets::rest(s, from, m);
+    while left != 0 {
+        let v = sets::lowest(left);
+        if may(before, bars, writers[v], s, v) {
+            return v;
+        }
+        left = sets::without(left, v);
     }
     m
 }

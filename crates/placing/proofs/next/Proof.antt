@@ -18,7 +18,7 @@ use Rattle.placing.proofs.next.Statement.{statement}
 use Rattle.placing.proofs.next.Tie as tie
 
 abbrev Inv-loop : tie.InvT-loop
-Inv-loop k m before bars writers table s from left₀ left = Untried m from (λ (d : ℕ). Free before bars (getD writers d 0) s d) (isSeen (k % slots) table s) left
+Inv-loop k m before bars writers table s from left₀ left = Untried s m from (λ (d : ℕ). Free before bars (getD writers d 0) s d) (isSeen (k % slots) table s) left
 
 abbrev μ-loop : tie.MeasureT-loop
 μ-loop k m before bars writers table s from left₀ left = left
@@ -43,7 +43,7 @@ element-copy-out-may : tie.Need-element-copy-out-may Inv-loop μ-loop
 element-copy-out-may c = let w = untried-lowest (c .before .before .loop .inv) (c .lowest .ensures) (c .before .loop-test .taken) in omega (arith, w .2)
 
 may-requires : tie.Need-may-requires Inv-loop μ-loop
-may-requires c κs = untried-lowest (c .before .before .before .loop .inv) (c .before .lowest .ensures) (c .before .before .loop-test .taken) .2
+may-requires c κs = let w = untried-lowest (c .before .before .before .loop .inv) (c .before .lowest .ensures) (c .before .before .loop-test .taken) in (w .2, w .4)
 
 with-requires : tie.Need-with-requires Inv-loop μ-loop
 with-requires c κs = search needs
@@ -83,7 +83,7 @@ loop-again c =
     let a = c .before .before .before .before .before .before .before .before .before .args in
     let w = untried-lowest (c .before .before .before .before .before .before .loop .inv) (c .before .before .before .before .lowest .ensures) (c .before .before .before .before .before .loop-test .taken) in
     let z = c .without .ensures ∙ ap (remove (c .before .before .before .before .before .before .loop .left)) (mod-eq-of-lt (w .2)) in
-    subst (Untried (a .m) (a .from) _ _) (sym z)
+    subst (Untried (a .s) (a .m) (a .from) _ _) (sym z)
     (untried-next (c .before .before .before .before .before .before .loop .inv) (c .before .before .before .before .lowest .ensures) (c .before .before .before .before .before .loop-test .taken)
     (λ f. ⊎-elim
     (λ v. ap (isMarked (now (a .table))) (sym (looked (a .s) (c .before .before .before .before .lowest .result) (a .k % slots) (w .2) (v .1 .ensures) (v .2 .ensures))) ∙ sym (v .3 .ensures) ∙ not-false _ (v .4 .left))

@@ -5,6 +5,8 @@ use format::MAX_MEMORY;
 use format::Shape;
 use ranges::unbroken;
 ghost use mathlib.Core.Path.{_≡_};
+ghost use lib.Dec.{eqb};
+ghost use Rattle.basis.specs.Test.{_and_, _or_};
 ghost use Rattle.content.specs.Content.{within, inside, initFormed, sized, kindFits, otherFormed, formed, tearFits, alone};
 
 pub fn within(lo: u8, hi: u8, n: u8) -> bool
@@ -25,29 +27,25 @@ fn init_formed(agent: u8, a: Shape) -> bool
     (agent == 0) & ((a.kind == 2) & within(1, MAX_MEMORY, a.width))
 }
 
-// A width of 0 divides nothing, so it is answered before the remainder is taken.
+// A width of 1, 2, 4 or 8; of an sc access one that divides the start. Here and below without a jump: what an event is is hard to foresee.
 fn sized(a: Shape) -> bool
     ensures { λ r. ⌜ r ≡ sized a ⌝ }
 {
     let w = a.width;
-    if w == 0 {
-        return false;
-    }
-    let listed = (w == 1) | ((w == 2) | ((w == 4) | (w == 8)));
-    listed & (!access::sc(a) | (a.start % w == 0))
+    let free = !access::sc(a);
+    (w == 1)
+        | (((w == 2) & (free | (a.start % 2 == 0)))
+            | (((w == 4) & (free | (a.start % 4 == 0))) | ((w == 8) & (free | (a.start % 8 == 0)))))
 }
 
 fn kind_fits(a: Shape) -> bool
     ensures { λ r. ⌜ r ≡ kindFits a ⌝ }
 {
-    let kind = a.kind;
-    match kind {
-        1 => sized(a),
-        2 => sized(a),
-        3 => access::sc(a) & sized(a),
-        4 => access::sc(a) & ((a.start == 0) & (a.width == 0)),
-        _ => false,
-    }
+    let w = a.width;
+    let sc = access::sc(a);
+    let access = ((a.kind == 1) | (a.kind == 2)) | ((a.kind == 3) & sc);
+    let marker = (a.kind == 4) & (sc & ((a.start == 0) & (w == 0)));
+    (access & sized(a)) | marker
 }
 
 fn other_formed(agents: u8, agent: u8, a: Shape) -> bool
@@ -69,7 +67,7 @@ fn formed(agents: u8, agent: u8, a: Shape) -> bool
 }
 
 // The tear byte: 1 for sc accesses, 0 or 1 for unordered ones that could be tear-free, 0 for all else.
-fn tear_fits(a: Shape) -> bool
+pub fn tear_fits(a: Shape) -> bool
     ensures { λ r. ⌜ r ≡ tearFits a ⌝ }
 {
     let sc = access::sc(a) & !access::marks(a);
@@ -81,6 +79,13 @@ fn tear_fits(a: Shape) -> bool
         return a.tear <= 1;
     }
     a.tear == 0
+}
+
+// An event that is no init, but for its tear byte.
+pub fn other_alone(h: Head, agent: u8, a: Shape) -> bool
+    ensures { λ r. ⌜ r ≡ (inside (h .size) a and ((eqb (a .mode) 1 or eqb (a .mode) 2) and otherFormed (h .agents) agent a)) ⌝ }
+{
+    inside(h.size, a) & (((a.mode == 1) | (a.mode == 2)) & other_formed(h.agents, agent, a))
 }
 
 // An event, whatever stands before it.

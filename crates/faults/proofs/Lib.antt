@@ -1,1 +1,2 @@
 pub mod FaultsLaws
+pub mod PlainLaws

@@ -1,14 +1,25 @@
 // The first fault of a field, by the counts and places of what stands before it: its refusal's number, 0 for none; and the refusal's place.
 use entries::Counts;
+use format::MAX_INITS;
+use format::MAX_OTHERS;
 use format::MAX_PAIRS;
+use format::Shape;
 use format::field;
 use format::field::FIELD_BYTES;
 use sizes::PAIR_BYTES;
 ghost use mathlib.Core.Path.{_≡_};
-ghost use Prim.Native.Nat.{_-_};
+ghost use mathlib.Core.Bool.{true, false, cond};
+ghost use mathlib.Core.List.{List};
+ghost use Prim.Native.Nat.{ℕ, _+_, _-_};
+ghost use lib.Dec.{eqb, leb};
+ghost use lib.ListN.{length};
+ghost use Rattle.basis.specs.Test.{_and_};
+ghost use Rattle.format.specs.Field.{lengthAt, nextAt};
+ghost use Rattle.format.specs.Layout.{eventBytes, dataBytes};
+ghost use Rattle.content.specs.Content.{tearFits};
 ghost use Rattle.parse.specs.Parse.{placeOf, allowed, headFault, eventFaultBy, rowFault, pairFault, valueFaultBy};
 ghost use Rattle.entries.specs.Entries.{eventsIn, rowsIn, pairsIn, execution};
-ghost use Rattle.faults.specs.Faults.{roomBy, faultIn};
+ghost use Rattle.faults.specs.Faults.{roomBy, faultIn, PlainHead, PlainEvent};
 
 // The place of a refusal of a field, from its number and the place of the tag: made here and nowhere else.
 pub fn place_of(number: u8, tag: u16) -> u32
@@ -143,4 +154,84 @@ pub fn fault_at(s: &[u8], p: u16, last: u8, x: Counts, at: &[u16]) -> u8
         return 2;
     }
     value_fault(s, x, at, tag, field::value_at(s, p as u32))
+}
+
+// ---- most fields, with few jumps: is the field such a one, and without a fault? Any other is left to `fault_at`.
+
+// The bytes of a field before an event's data, in any edition.
+const FRONT_BYTES: usize = 9;
+
+// The first field as a head.
+pub fn plain_head(s: &[u8]) -> bool
+    ensures { λ r. ⌜ (r ≡ true → PlainHead (now (s .entry))) ⌝ }
+{
+    let v = field::value_at(s, 0);
+    let there = (FIELD_BYTES <= s.len())
+        & (FIELD_BYTES + field::length_at(s, 0) as usize <= s.len());
+    let here = there & (field::byte(s, 0) == 1);
+    if !here {
+        return false;
+    }
+    head_fault(v) == 0
+}
+
+// The value of the field at p is one of an event of shape a by its length, and ends within the sheet.
+fn event_ends(s: &[u8], p: u16, edition: u8, a: Shape) -> bool
+    ensures { λ r. ⌜ r ≡ (eqb (lengthAt (now (s .entry)) p) (eventBytes edition + dataBytes a) and leb (nextAt (now (s .entry)) p) (length (now (s .entry)))) ⌝ }
+{
+    let len = field::length_at(s, p as u32) as usize;
+    let exact = len == sizes::event_bytes(edition) as usize + sizes::data_bytes(a) as usize;
+    exact & (p as usize + FIELD_BYTES + len <= s.len())
+}
+
+// The tear byte: edition 1 has none, and its rule gives one that fits.
+fn tear_clean(edition: u8, a: Shape) -> bool
+    ensures { λ r. ⌜ r ≡ cond (eqb edition 2) (tearFits a) true ⌝ }
+{
+    match edition {
+        2 => content::tear_fits(a),
+        _ => true,
+    }
+}
+
+// The field at p, behind a head or an init, as an init.
+pub fn plain_init(s: &[u8], p: u16, x: Counts, at: &[u16]) -> bool
+    ensures { λ r. ⌜ (r ≡ true → PlainEvent (now (s .entry)) p x (now (at .entry)) true) ⌝ }
+{
+    let place = p as usize;
+    let short = s.len() < place + FRONT_BYTES;
+    if short {
+        return false;
+    }
+    let edition = x.head.edition;
+    let agent = entries::agent_at(s, p);
+    let a = entries::shape_at(s, edition, p);
+    let here = (field::byte(s, place) == 2) & (access::initial(a) & event_ends(s, p, edition, a));
+    let room = (agent == 0) & (x.inits < MAX_INITS);
+    if !(here & room) {
+        return false;
+    }
+    fits::event_fits(s, x, at, agent, a)
+}
+
+// The field at p, behind a head or an event, as an event that is no init. It is read by edition 2's layout, which has the tear byte as it
+// stands; at edition 1 no test here asks for it.
+pub fn plain_event(s: &[u8], p: u16, x: Counts) -> bool
+    ensures { λ r. ⌜ (r ≡ true → (at : List ℕ) → PlainEvent (now (s .entry)) p x at false) ⌝ }
+{
+    let place = p as usize;
+    let short = s.len() < place + FRONT_BYTES;
+    if short {
+        return false;
+    }
+    let edition = x.head.edition;
+    let a = entries::shape_at(s, 2, p);
+    let tear = tear_clean(edition, a);
+    if !tear {
+        return false;
+    }
+    let fits = content::other_alone(x.head, entries::agent_at(s, p), a);
+    let here = (field::byte(s, place) == 2) & event_ends(s, p, edition, a);
+    let room = (x.events as u16) < x.inits as u16 + MAX_OTHERS as u16;
+    here & (fits & room)
 }

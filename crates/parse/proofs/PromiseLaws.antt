@@ -1,5 +1,6 @@
 -- What `parse` accepts keeps the reader's promise: specs/Promise.antt. Kept field by field, then the tests after all fields. Assumes nothing.
 --     promise : parse s ≡ whole x → WellFormed x
+--     Kept, kept-blank, kept-after     what holds of an execution as far as it has been read: of nothing, of one field more
 use mathlib.Core.Path.{_≡_, refl, sym, _∙_, subst}
 use mathlib.Core.Logic.{_⊎_, inl, inr, ⊎-elim}
 use mathlib.Core.Bool.{Bool, true, false, false≢true}
@@ -35,30 +36,30 @@ use Rattle.parse.proofs.EventLaws.{well-event, stands-first}
 
 -- ---- what holds of an execution as far as it has been read
 
-record KeptEvents (h : Head) (l : List Event) : Type 0 where
-  well : (e : ℕ) → e < length l → WellEvent h (getD l e nobody)
+pub record KeptEvents (h : Head) (l : List Event) : Type 0 where
+  pub well : (e : ℕ) → e < length l → WellEvent h (getD l e nobody)
   first : (e d : ℕ) → e < d → d < length l → T (isInit (getD l d nobody)) → T (isInit (getD l e nobody))
   apart : (e d : ℕ) → e < d → d < length l → T (isInit (getD l d nobody))
       → (a : Access) → List·Memᴰ a (getD l d nobody .accesses) → T (meets (a .shape) (getD l e nobody)) → ⊥
   few-inits : inits l ≤ maxInits
   few-others : others l ≤ maxOthers
 
-record KeptRows (events : List Event) (l : List Row) : Type 0 where
-  joins : (j : ℕ) → j < length l → JoinedFacts events (getD l j noRow)
-  rise : (i j : ℕ) → i < j → j < length l → T (rowBelow (getD l i noRow) (getD l j noRow))
+pub record KeptRows (events : List Event) (l : List Row) : Type 0 where
+  pub joins : (j : ℕ) → j < length l → JoinedFacts events (getD l j noRow)
+  pub rise : (i j : ℕ) → i < j → j < length l → T (rowBelow (getD l i noRow) (getD l j noRow))
 
 record KeptPairs (events : List Event) (l : List Pair) : Type 0 where
   parts : (j : ℕ) → j < length l → PartedFacts events (getD l j noPair)
   rise : (i j : ℕ) → i < j → j < length l → T (pairBelow (getD l i noPair) (getD l j noPair))
   few : length l ≤ maxPairs
 
-record Kept (st : State) : Type 0 where
+pub record Kept (st : State) : Type 0 where
   head : 0 < st .tag → headFits (st .got .head) ≡ true
   no-events : st .tag < 2 → st .got .events ≡ []
   no-rows : st .tag < 3 → st .got .rows ≡ []
   no-pairs : st .tag < 4 → st .got .pairs ≡ []
-  events : KeptEvents (st .got .head) (st .got .events)
-  rows : KeptRows (st .got .events) (st .got .rows)
+  pub events : KeptEvents (st .got .head) (st .got .events)
+  pub rows : KeptRows (st .got .events) (st .got .rows)
   pairs : KeptPairs (st .got .events) (st .got .pairs)
 
 -- ---- nothing yet
@@ -77,7 +78,7 @@ pairs-none : (events : List Event) (l : List Pair) → l ≡ [] → KeptPairs ev
 pairs-none events l e =
     subst (KeptPairs events) (sym e) (record { parts = λ i j. absurd (omega arith); rise = λ i j b c. absurd (omega arith); few = omega arith })
 
-kept-blank : Kept blank
+pub kept-blank : Kept blank
 kept-blank =
     record {
       head = λ t. absurd (omega arith);
@@ -254,7 +255,7 @@ module _ (s : List ℕ) (p : ℕ) (st : State) (f : faultAt s p st ≡ 0) (k : K
         pairs = pairs-more (st .got .events) (st .got .pairs) v (k .pairs) (pair-clean s p st f e);
       })
 
-  kept-after : Kept (after s p st)
+  pub kept-after : Kept (after s p st)
   kept-after = go (eqb (tagAt s p) 1) refl (eqb (tagAt s p) 2) refl (eqb (tagAt s p) 3) refl (eqb (tagAt s p) 4) refl
     where
       go : (a : Bool) → eqb (tagAt s p) 1 ≡ a → (b : Bool) → eqb (tagAt s p) 2 ≡ b → (c : Bool) → eqb (tagAt s p) 3 ≡ c → (d : Bool) → eqb (tagAt s p) 4 ≡ d

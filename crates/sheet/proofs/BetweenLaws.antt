@@ -1,7 +1,7 @@
 -- The laws of specs/steps/Between.antt: the counts with a field taken stand for the state behind it; the loop over the fields. Assumes nothing.
 --     ready-next, event-few, row-few, pair-few     what the code needs to take a field
 --     head-taken, event-taken, row-taken, pair-taken     a field taken, by its tag
---     Turn, turn-start, turn-through, turn-fault, turn-ready, turn-reach, turn-next     the loop's invariant
+--     turn-start, turn-through, turn-fault, turn-ready, turn-reach, turn-next     the loop's invariant
 use Prim.Native.Nat.{ℕ, zero, suc, _+_, _*_, _-_, _≤_, _<_}
 use mathlib.Core.Path.{_≡_, refl, sym, ap, _∙_, subst}
 use mathlib.Core.Logic.{_⊎_, ⊎-elim}
@@ -34,7 +34,7 @@ use Rattle.entries.proofs.EntriesLaws.{spaced-more}
 use Rattle.faults.specs.Faults.{view, Counted, faultIn}
 use Rattle.faults.proofs.FaultsLaws.{others-count, inits-fit, fault-in}
 use Rattle.sheet.specs.Handed.{blankCounts, blankPlaces}
-use Rattle.sheet.specs.steps.Between.{Between, Ready, Advanced, withHead, withEvent, withRow, withPair, Through}
+use Rattle.sheet.specs.steps.Between.{Between, Ready, Advanced, Turn, withHead, withEvent, withRow, withPair, Through}
 use Rattle.sheet.proofs.TakenLaws.{value-event, value-row, value-pair}
 
 -- ---- lists, one thing more
@@ -302,15 +302,6 @@ between-start s =
       rows-at = λ t. absurd (omega arith);
       pairs-at = λ t. absurd (omega arith);
     }
-
--- the loop's invariant: the whole answer is the answer from here, with fuel enough
-pub record Turn (s : List ℕ) (p last : ℕ) (x : Counts) (at : List ℕ) : Type 0 where
-  pub fuel : ℕ
-  pub goes : parse s ≡ fieldsFrom s (suc fuel) p (view s last x at)
-  pub enough : length s ≤ fuel + p
-  pub within-s : p ≤ length s
-  pub short : length s ≤ maxBytes
-  pub between : Between s p last x at
 
 pub turn-start : (s : List ℕ) → length s ≤ maxBytes → Turn s 0 0 blankCounts blankPlaces
 unfolding eventsOn rowsOn pairsOn spaced

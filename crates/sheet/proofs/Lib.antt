@@ -2,3 +2,4 @@ pub mod TakenLaws
 pub mod BetweenLaws
 pub mod CompleteLaws
 pub mod AgreementLaws
+pub mod PlainLaws

@@ -16,6 +16,13 @@ pub enum Scan {
     Ended(u8, Counts),
 }
 
+// Where the reader stands: at a place, behind a field with the tag `last` (0 for none), with the counts so far.
+pub struct Spot {
+    pub p: u16,
+    pub last: u8,
+    pub x: Counts,
+}
+
 // The reader's outcome: the sheet's counts, and the place of each event's tag.
 pub struct Outcome {
     pub reading: Reading,

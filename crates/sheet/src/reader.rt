@@ -2,24 +2,30 @@
 use crate::Outcome;
 use crate::Reading;
 use crate::Scan;
+use crate::Spot;
 use entries::Counts;
 use format::Head;
 use format::MAX_BYTES;
+use format::Row;
+use format::Shape;
 use format::field;
 use format::field::FIELD_BYTES;
 use lacking::Lack;
 use sets::SLOTS;
 ghost use mathlib.Core.Path.{_≡_};
-ghost use Prim.Native.Nat.{_≤_, _<_};
+ghost use mathlib.Core.Bool.{true};
+ghost use Prim.Native.Nat.{_+_, _*_, _≤_, _<_};
 ghost use lib.ListN.{length, replicate};
 ghost use Rattle.sets.specs.Mask.{slots};
 ghost use Rattle.format.specs.Limits.{maxBytes};
-ghost use Rattle.format.specs.Field.{nextAt};
+ghost use Rattle.format.specs.Field.{nextAt, restAt};
+ghost use Rattle.format.specs.Layout.{shapeOf, rowGap};
+ghost use Rattle.content.specs.Content.{rowRises};
 ghost use Rattle.parse.specs.Parse.{finish};
-ghost use Rattle.entries.specs.Entries.{execution};
-ghost use Rattle.sheet.specs.Handed.{blankCounts, Handed};
+ghost use Rattle.entries.specs.Entries.{rowsIn, execution};
+ghost use Rattle.sheet.specs.Handed.{blankCounts, blankPlaces, Handed};
 ghost use Rattle.faults.specs.Faults.{view};
-ghost use Rattle.sheet.specs.steps.Between.{Ready, Advanced, withHead, withEvent, withRow, withPair, Through, Scanned, parsedOf, refusal};
+ghost use Rattle.sheet.specs.steps.Between.{Ready, Advanced, Turn, Stands, PlainRow, withHead, withEvent, withRow, withPair, Through, Scanned, parsedOf, refusal};
 
 // ---- the counts behind a field
 
@@ -144,14 +150,187 @@ fn blank() -> Counts
     }
 }
 
+// ---- most fields: a head, inits, other events, rows, as long as each is without a fault; the next is left to the loop over all fields
+
+fn begin(s: &[u8]) -> Spot
+    requires { ⌜ length (now s) ≤ maxBytes ⌝ }
+    ensures { λ r. ⌜ Stands (now (s .entry)) r blankPlaces ⌝ }
+{
+    let plain = faults::plain_head(s);
+    if !plain {
+        return Spot {
+            p: 0,
+            last: 0,
+            x: blank(),
+        };
+    }
+    let next = next_at(s, 0);
+    let v = field::value_at(s, 0);
+    Spot {
+        p: next,
+        last: 1,
+        x: with_head(layout::head_of(field::byte(v, 0), v), next),
+    }
+}
+
+fn inits(s: &[u8], q: Spot, at: &mut [u16]) -> Spot
+    requires { ⌜ Stands (now s) q (now at) ⌝ }
+    ensures { λ r. ⌜ Stands (now (s .entry)) r (now (at .exit)) ⌝ }
+{
+    let mut x = q.x;
+    let mut last = q.last;
+    let mut p = q.p;
+    if last != 1 {
+        return q;
+    }
+    while (p as usize) < s.len() {
+        let plain = faults::plain_init(s, p, x, at);
+        if !plain {
+            return Spot {
+                p: p,
+                last: last,
+                x: x,
+            };
+        }
+        let next = next_at(s, p);
+        let i = x.events as usize;
+        at[i] = p;
+        x = with_event(x, 0, next);
+        last = 2;
+        p = next;
+    }
+    Spot {
+        p: p,
+        last: last,
+        x: x,
+    }
+}
+
+fn events(s: &[u8], q: Spot, at: &mut [u16]) -> Spot
+    requires { ⌜ Stands (now s) q (now at) ⌝ }
+    ensures { λ r. ⌜ Stands (now (s .entry)) r (now (at .exit)) ⌝ }
+{
+    let mut x = q.x;
+    let mut last = q.last;
+    let mut p = q.p;
+    let here = content::within(1, 2, last);
+    if !here {
+        return q;
+    }
+    while (p as usize) < s.len() {
+        let plain = faults::plain_event(s, p, x);
+        if !plain {
+            return Spot {
+                p: p,
+                last: last,
+                x: x,
+            };
+        }
+        let next = next_at(s, p);
+        let i = x.events as usize;
+        at[i] = p;
+        x = with_event(x, 1, next);
+        last = 2;
+        p = next;
+    }
+    Spot {
+        p: p,
+        last: last,
+        x: x,
+    }
+}
+
+// The shape of the event at a place, where the bytes before its data are there in any edition.
+fn shape_here(s: &[u8], edition: u8, p: u16) -> Shape
+    requires { ⌜ p + 9 ≤ length (now s) ⌝ }
+    ensures { λ r. ⌜ r ≡ shapeOf edition (restAt (now (s .entry)) p) ⌝ }
+{
+    let start = p as usize + FIELD_BYTES;
+    let end = start + 6;
+    layout::shape_of(edition, &s[start..end])
+}
+
+// Is the row r, of the field at p, above the one before it?
+fn rises(s: &[u8], p: u16, x: Counts, r: Row) -> bool
+    requires { ⌜ (p ≤ length (now s)) × (x .«rows_at» + x .rows * rowGap (x .head .edition) ≡ p) ⌝ }
+    ensures { λ y. ⌜ y ≡ rowRises (rowsIn (now (s .entry)) x) r ⌝ }
+{
+    if x.rows == 0 {
+        return true;
+    }
+    let end = p as usize;
+    let start = end - 3;
+    limits::row_below(layout::row_of(x.head.edition, &s[start..end]), r)
+}
+
+// Is the field at p, behind an event or a row, a row without a fault? Its events stand before it, so that their bytes are there.
+fn plain_row(s: &[u8], p: u16, last: u8, x: Counts, at: &[u16]) -> bool
+    requires { ⌜ Turn (now s) p last x (now at) × (last < 4) ⌝ }
+    ensures { λ r. ⌜ (r ≡ true → PlainRow (now (s .entry)) p x (now (at .entry))) ⌝ }
+{
+    let place = p as usize;
+    let start = place + FIELD_BYTES;
+    let end = start + 3;
+    if s.len() < end {
+        return false;
+    }
+    let edition = x.head.edition;
+    let r = layout::row_of(edition, &s[start..end]);
+    let here = (field::byte(s, place) == 3)
+        & (field::length_at(s, p as u32) == sizes::row_bytes(edition) as u16);
+    let known = here & ((r.reader < x.events) & (r.writer < x.events));
+    if !known {
+        return false;
+    }
+    let e = r.reader as usize;
+    let w = r.writer as usize;
+    let a = shape_here(s, edition, at[e]);
+    let b = shape_here(s, edition, at[w]);
+    let reads = ranges::covers(a, r.address) & access::reads(a);
+    let writes = ranges::covers(b, r.address) & access::writes(b);
+    (reads & (writes & !(r.reader == r.writer))) & rises(s, p, x, r)
+}
+
+fn rows(s: &[u8], q: Spot, at: &[u16]) -> Spot
+    requires { ⌜ Stands (now s) q (now at) ⌝ }
+    ensures { λ r. ⌜ Stands (now (s .entry)) r (now (at .entry)) ⌝ }
+{
+    let mut x = q.x;
+    let mut last = q.last;
+    let mut p = q.p;
+    if last != 2 {
+        return q;
+    }
+    while (p as usize) < s.len() {
+        let plain = plain_row(s, p, last, x, at);
+        if !plain {
+            return Spot {
+                p: p,
+                last: last,
+                x: x,
+            };
+        }
+        let next = next_at(s, p);
+        x = with_row(x, next);
+        last = 3;
+        p = next;
+    }
+    Spot {
+        p: p,
+        last: last,
+        x: x,
+    }
+}
+
 // The fields, front to back, up to the first at fault. The places start out as zeros.
 fn fields(s: &[u8], at: &mut [u16]) -> Scan
     requires { ⌜ (length (now s) ≤ maxBytes) × (now at ≡ replicate slots 0) ⌝ }
     ensures { λ r. ⌜ Scanned (now (s .entry)) r (now (at .exit)) ⌝ }
 {
-    let mut x = blank();
-    let mut last: u8 = 0;
-    let mut p: u16 = 0;
+    let q = rows(s, events(s, inits(s, begin(s), at), at), at);
+    let mut x = q.x;
+    let mut last = q.last;
+    let mut p = q.p;
     while (p as usize) < s.len() {
         let n = faults::fault_at(s, p, last, x, at);
         if n != 0 {

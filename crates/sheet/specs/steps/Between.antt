@@ -1,10 +1,12 @@
 -- What the reader keeps between two fields, and what it means: the contracts of its own functions, no part of what it promises.
 --     Between                       what holds of the counts and places at place p
 --     Ready, Advanced               a field without a fault is at hand; it has been taken
+--     Turn, Stands                  the whole answer is the answer from here; at a spot
+--     PlainRow                      the field at p is a row without a fault, behind an event or a row
 --     Scanned                       what is known when the fields are through
 -- Assumes nothing.
 use mathlib.Core.Path.{_≡_}
-use mathlib.Core.Bool.{cond}
+use mathlib.Core.Bool.{true, cond}
 use mathlib.Core.List.{List}
 use Prim.Native.Nat.{ℕ, suc, _+_, _-_, _*_, _<_, _≤_}
 use lib.Dec.{eqb}
@@ -19,11 +21,13 @@ use Rattle.sheet.specs.declared.Reading.{Reading}
 use Rattle.sheet.specs.declared.Reading.the-variants.{Refused, Whole}
 use Rattle.sheet.specs.declared.Scan.{Scan}
 use Rattle.sheet.specs.declared.Scan.the-variants.{Stopped, Ended}
+use Rattle.sheet.specs.declared.Spot.{Spot}
 use Rattle.sheet.specs.declared.Outcome.{Outcome}
-use Rattle.parse.specs.Parse.{Parsed, refused, whole, faultAt, after, finish, parse}
+use Rattle.content.specs.Content.{within}
+use Rattle.parse.specs.Parse.{Parsed, refused, whole, faultAt, after, finish, fieldsFrom, parse}
 use Rattle.entries.specs.declared.Counts.{Counts}
 use Rattle.entries.specs.Entries.{eventsIn}
-use Rattle.faults.specs.Faults.{view}
+use Rattle.faults.specs.Faults.{view, faultIn}
 use Rattle.sheet.specs.Handed.{blankCounts, blankPlaces}
 
 -- at place p, behind a field with the tag `last` (0 for none)
@@ -52,6 +56,22 @@ pub record Ready (s : List ℕ) (p last : ℕ) (x : Counts) (at : List ℕ) : Ty
 pub record Advanced (s : List ℕ) (p last : ℕ) (x : Counts) (at : List ℕ) (y : Counts) (at′ : List ℕ) : Type 0 where
   pub between : Between s (nextAt s p) (tagAt s p) y at′
   pub seen : view s (tagAt s p) y at′ ≡ after s p (view s last x at)
+
+-- the loop's invariant: the whole answer is the answer from here, with fuel enough
+pub record Turn (s : List ℕ) (p last : ℕ) (x : Counts) (at : List ℕ) : Type 0 where
+  pub fuel : ℕ
+  pub goes : parse s ≡ fieldsFrom s (suc fuel) p (view s last x at)
+  pub enough : length s ≤ fuel + p
+  pub within-s : p ≤ length s
+  pub short : length s ≤ maxBytes
+  pub between : Between s p last x at
+
+abbrev pub Stands : List ℕ → Spot → List ℕ → Type 0
+Stands s q at = Turn s (q .p) (q .last) (q .x) at
+
+pub record PlainRow (s : List ℕ) (p : ℕ) (x : Counts) (at : List ℕ) : Type 0 where
+  pub tag : tagAt s p ≡ 3
+  pub clean : (last : ℕ) → within 1 3 last ≡ true → faultIn s p last x at ≡ 0
 
 -- ---- the counts behind a field that ends at `next`
 

@@ -1,0 +1,152 @@
+-- Fields that pass every test, from the tests of the code. Assumes nothing.
+--     head-plain               a head
+--     init-plain               an init
+--     other-plain              an event that is no init, by edition 2's layout and, there, its tear byte
+use Prim.Native.Nat.{ℕ, _+_, _-_, _≤_, _<_}
+use mathlib.Core.Path.{_≡_, refl, sym, ap, _∙_, subst}
+use mathlib.Core.Bool.{Bool, true, false, cond}
+use mathlib.Core.List.{List}
+use mathlib.Core.Logic.{_⊎_, inl, inr}
+use native.Mathlib.Omega.{arith}
+use borrow.Author.Tests.{eqb-true, eq-eqb, ne-eqb, le-ltb, lt-ltb, leb-true, ltb-true}
+use lib.Dec.{eqb, ltb, leb}
+use lib.ListN.{length, length-take, length-drop}
+use Rattle.basis.specs.Test.{_and_, _or_}
+use Rattle.basis.proofs.BoolLaws.{and-both, or-either, both-hold, or-holds, non-holds}
+use Rattle.format.specs.declared.Shape.{Shape}
+use Rattle.format.specs.Shape.{tearOf, initial, sc}
+use Rattle.format.specs.Limits.{maxInits, maxOthers}
+use Rattle.format.specs.Field.{tagAt, lengthAt, nextAt, valueAt, restAt}
+use Rattle.format.specs.Layout.{eventBytes, dataBytes, tearBy, agentOf, shapeOf}
+use Rattle.format.proofs.LayoutLaws.{event-low, agent-front, shape-front}
+use Rattle.content.specs.Content.{within, inside, sized, kindFits, otherFormed, formed, tearFits, alone, eventFits, roomIn}
+use Rattle.content.proofs.ContentLaws.{within-elim, rule-fits}
+use Rattle.parse.specs.Parse.{allowed, headFault, eventFaultBy, valueFaultBy, faultBy}
+use Rattle.parse.proofs.FormedLaws.{passed, passed-non}
+use Rattle.entries.specs.declared.Counts.{Counts}
+use Rattle.entries.specs.Entries.{eventsIn}
+use Rattle.faults.specs.Faults.{roomBy, PlainHead, PlainEvent}
+
+-- a value that ends within the sheet is as long as its field says
+value-long : (s : List ℕ) (p : ℕ) → nextAt s p ≤ length s → length (valueAt s p) ≡ lengthAt s p
+unfolding valueAt
+value-long s p h = simp (length-take, length-drop) (omega arith)
+
+pub head-plain : (s : List ℕ) → nextAt s 0 ≤ length s → tagAt s 0 ≡ 1 → headFault (valueAt s 0) ≡ 0 → PlainHead s
+unfolding faultBy valueFaultBy allowed
+head-plain s h e f =
+    record {
+      tag = e;
+      clean = λ x at. passed _ _ _ (le-ltb (length s) 3 (omega arith)) (passed-non _ _ _ (simp e) (passed _ _ _ (le-ltb (length s) (nextAt s 0) h) (simp (e, f))));
+    }
+
+-- a mode of 1 or 2
+later : (m : ℕ) → (eqb m 1 ≡ true) ⊎ (eqb m 2 ≡ true) → eqb m 0 ≡ false
+later m (inl e) = let q = eqb-true m 1 e in ne-eqb m 0 (λ (z : m ≡ 0). omega arith)
+later m (inr e) = let q = eqb-true m 2 e in ne-eqb m 0 (λ (z : m ≡ 0). omega arith)
+
+later-formed : (agents agent : ℕ) (a : Shape) → (eqb (a .mode) 1 ≡ true) ⊎ (eqb (a .mode) 2 ≡ true) → otherFormed agents agent a ≡ true
+    → formed agents agent a ≡ true
+unfolding formed
+later-formed agents agent a (inl e) o = rw (later (a .mode) (inl e), e) o
+later-formed agents agent a (inr e) o =
+    let q = eqb-true (a .mode) 2 e in
+    let z : eqb (a .mode) 1 ≡ false = ne-eqb (a .mode) 1 (λ (u : a .mode ≡ 1). omega arith) in
+    rw (later (a .mode) (inr e), z, e) o
+
+module _ (s : List ℕ) (p : ℕ) (x : Counts) (at : List ℕ) (reach : nextAt s p ≤ length s) where
+  abbrev ed : ℕ
+  ed = x .head .edition
+
+  abbrev a : Shape
+  a = shapeOf ed (restAt s p)
+
+  module _ (long : lengthAt s p ≡ eventBytes ed + dataBytes a) where
+    same-shape : shapeOf ed (valueAt s p) ≡ a
+    unfolding valueAt
+    same-shape = shape-front ed (restAt s p) (lengthAt s p) (omega arith)
+
+    same-agent : agentOf (valueAt s p) ≡ agentOf (restAt s p)
+    unfolding valueAt
+    same-agent = let l = event-low ed in agent-front ed (restAt s p) (lengthAt s p) (omega arith)
+
+    event-plain : tagAt s p ≡ 2 → eventFits (x .head) (eventsIn s x at) (agentOf (restAt s p)) a ≡ true → roomBy x (agentOf (restAt s p)) ≡ true
+        → PlainEvent s p x at (eqb (agentOf (restAt s p)) 0)
+    unfolding faultBy valueFaultBy eventFaultBy allowed
+    event-plain e fits room =
+        record {
+          tag = e;
+          agent = ap (λ (n : ℕ). eqb n 0) same-agent;
+          clean = λ last w. passed _ _ _ (le-ltb (length s) (p + 3) (omega arith)) (passed-non _ _ _ (simp (e, w)) (passed _ _ _ (le-ltb (length s) (nextAt s p) reach) (simp e value)));
+        }
+      where
+        value : eventFaultBy (roomBy x) (x .head) (eventsIn s x at) (valueAt s p) ≡ 0
+        value =
+            let n = value-long s p reach in
+            passed _ _ _ (le-ltb (length (valueAt s p)) (eventBytes ed) (omega arith))
+            (passed-non _ _ _ (rw (same-agent, same-shape) fits)
+            (passed-non _ _ _ (eq-eqb _ _ (n ∙ long ∙ sym (ap (λ (b : Shape). eventBytes ed + dataBytes b) same-shape)))
+            (passed-non _ _ _ (rw same-agent room) refl)))
+
+  -- an event that is no init: its shape by edition 2's layout, but for the tear byte, is its shape
+  abbrev b : Shape
+  b = shapeOf 2 (restAt s p)
+
+  abbrev by : ℕ
+  by = agentOf (restAt s p)
+
+  tear-ruled : eqb ed 2 ≡ false → a .tear ≡ tearOf (a .kind) (a .mode) (a .start) (a .width)
+  unfolding tearBy
+  tear-ruled q = rw q refl
+
+  tear-there : cond (eqb ed 2) (tearFits b) true ≡ true → tearFits a ≡ true
+  tear-there h = go (eqb ed 2) refl
+    where
+      go : (c : Bool) → eqb ed 2 ≡ c → tearFits a ≡ true
+      go true q = let e : ed ≡ 2 = eqb-true _ _ q in rw e (rw q at h)
+      go false q = rule-fits a (tear-ruled q)
+
+  other-agent : (inside (x .head .size) b and ((eqb (b .mode) 1 or eqb (b .mode) 2) and otherFormed (x .head .agents) by b)) ≡ true → eqb by 0 ≡ false
+  unfolding otherFormed
+  other-agent h =
+      let v = and-both (inside (x .head .size) b) _ h in
+      let w = and-both (eqb (b .mode) 1 or eqb (b .mode) 2) _ (v .1) in
+      let k = within-elim 1 (x .head .agents) by (and-both (within 1 (x .head .agents) by) _ (w .1) .0) in
+      ne-eqb by 0 (λ (e : by ≡ 0). omega arith)
+
+  other-fits : (inside (x .head .size) b and ((eqb (b .mode) 1 or eqb (b .mode) 2) and otherFormed (x .head .agents) by b)) ≡ true
+      → cond (eqb ed 2) (tearFits b) true ≡ true → eventFits (x .head) (eventsIn s x at) by a ≡ true
+  unfolding eventFits alone inside otherFormed kindFits sized sc initial
+  other-fits h t =
+      let v = and-both (inside (x .head .size) b) _ h in
+      let w = and-both (eqb (b .mode) 1 or eqb (b .mode) 2) _ (v .1) in
+      let m = or-either (eqb (b .mode) 1) (eqb (b .mode) 2) (w .0) in
+      both-hold _ _ (both-hold _ _ (v .0) (both-hold _ _ (later-formed (x .head .agents) by a m (w .1)) (tear-there t))) (or-holds _ _ (non-holds _ (later (a .mode) m)))
+
+  other-room : eqb by 0 ≡ false → x .events < x .inits + maxOthers → roomBy x by ≡ true
+  unfolding roomIn
+  other-room e h = let l : x .events - x .inits < maxOthers = omega arith in rw e (lt-ltb (x .events - x .inits) maxOthers l)
+
+  init-room : eqb by 0 ≡ true → x .inits < maxInits → roomBy x by ≡ true
+  unfolding roomIn
+  init-room e h = rw e (lt-ltb _ _ h)
+
+-- from the tests of the code
+module _ (s : List ℕ) (p : ℕ) (x : Counts) (at : List ℕ) (e : eqb (tagAt s p) 2 ≡ true) where
+  pub init-plain : (eqb (lengthAt s p) (eventBytes (x .head .edition) + dataBytes (shapeOf (x .head .edition) (restAt s p))) and leb (nextAt s p) (length s)) ≡ true
+      → eqb (agentOf (restAt s p)) 0 ≡ true → ltb (x .inits) maxInits ≡ true
+      → eventFits (x .head) (eventsIn s x at) (agentOf (restAt s p)) (shapeOf (x .head .edition) (restAt s p)) ≡ true → PlainEvent s p x at true
+  init-plain h g r f =
+      let v = and-both (eqb (lengthAt s p) (eventBytes (x .head .edition) + dataBytes (shapeOf (x .head .edition) (restAt s p)))) _ h in
+      let l = leb-true (nextAt s p) (length s) (v .1) in
+      subst (PlainEvent s p x at) g (event-plain s p x at l (eqb-true _ _ (v .0)) (eqb-true _ _ e) f (init-room s p x at l g (ltb-true _ _ r)))
+
+  pub other-plain : (eqb (lengthAt s p) (eventBytes (x .head .edition) + dataBytes (shapeOf 2 (restAt s p))) and leb (nextAt s p) (length s)) ≡ true
+      → (inside (x .head .size) (shapeOf 2 (restAt s p)) and ((eqb (shapeOf 2 (restAt s p) .mode) 1 or eqb (shapeOf 2 (restAt s p) .mode) 2) and otherFormed (x .head .agents) (agentOf (restAt s p)) (shapeOf 2 (restAt s p)))) ≡ true
+      → cond (eqb (x .head .edition) 2) (tearFits (shapeOf 2 (restAt s p))) true ≡ true → ltb (x .events) (x .inits + maxOthers) ≡ true → PlainEvent s p x at false
+  unfolding dataBytes
+  other-plain h o t r =
+      let v = and-both (eqb (lengthAt s p) (eventBytes (x .head .edition) + dataBytes (shapeOf 2 (restAt s p)))) _ h in
+      let l = leb-true (nextAt s p) (length s) (v .1) in
+      let g = other-agent s p x at l o in
+      subst (PlainEvent s p x at) g (event-plain s p x at l (eqb-true _ _ (v .0)) (eqb-true _ _ e) (other-fits s p x at l o t) (other-room s p x at l g (ltb-true _ _ r)))

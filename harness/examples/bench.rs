@@ -1,8 +1,8 @@
-//! bench: the linked judge and two ordinary Rust judges over the same whole sheets, buffers reused, in one run: one test
-//! by test (`ordinary::same`), one with more tables of masks (`ordinary`). A line for each number of events that are not
-//! inits and each answer: nanoseconds a sheet, and the linked judge's time by the other's. Then the linked check of a list
-//! and the ordinary one with masks over the consistent sheets, each with the judge's order, which is accepted. The sheets are
-//! of edition 1; with `--edition 2` the same ones at edition 2, each tear byte as 01's rule gives it.
+//! bench: the linked judge and the ordinary Rust judge over the same whole sheets, buffers reused, in one run. A line for
+//! each number of events that are not inits and each answer: nanoseconds a sheet, and the linked judge's time by the
+//! other's. Then the linked check of a list and the ordinary one over the consistent sheets, each with the judge's order,
+//! which is accepted. The sheets are of edition 1; with `--edition 2` the same ones at edition 2, each tear byte as 01's rule
+//! gives it.
 
 use second::random::{sized, Rng};
 use second::text::{from_text, to_text};
@@ -57,7 +57,7 @@ fn pass_lists(check: Check, lists: &[(Vec<u8>, Vec<u8>)], times: usize) -> f64 {
 
 /// The lines for checks of lists: each is accepted, so that every test is made.
 fn checks(edition: &str) {
-    println!("| events | plimdrong, ns | with masks, ns | ratio |");
+    println!("| events | plimdrong, ns | ordinary, ns | ratio |");
     println!("|---|---|---|---|");
     let checks: [Check; 2] = [plimdrong::check_with, ordinary::check];
     for n in SIZES {
@@ -100,10 +100,10 @@ fn main() {
         }
     };
     let (mut scratch, mut order) = (vec![0; plimdrong::MAX_SCRATCH], vec![0; plimdrong::MAX_EVENTS]);
-    println!("{}; release build; edition {edition}; lowest of {ROUNDS} rounds, the three judges in turn", machine());
-    println!("| events | answer | plimdrong, ns | test by test, ns | ratio | more masks, ns | ratio |");
-    println!("|---|---|---|---|---|---|---|");
-    let judges: [Judge; 3] = [plimdrong::judge_with, ordinary::same::judge, ordinary::judge];
+    println!("{}; release build; edition {edition}; lowest of {ROUNDS} rounds, the two judges in turn", machine());
+    println!("| events | answer | plimdrong, ns | ordinary, ns | ratio |");
+    println!("|---|---|---|---|---");
+    let judges: [Judge; 2] = [plimdrong::judge_with, ordinary::judge];
     for n in SIZES {
         for (kind, name) in [(3, "consistent"), (2, "broken 26")] {
             let sheets = sheets(n, kind, edition);
@@ -112,23 +112,16 @@ fn main() {
                     let mut order = vec![0; plimdrong::MAX_EVENTS];
                     (judge(sheet, &mut scratch, &mut order), order)
                 });
-                assert!(told[0] == told[1] && told[0] == told[2]);
+                assert!(told[0] == told[1]);
             }
             let once = pass(ordinary::judge, &sheets, 3, &mut scratch, &mut order) / 3.0;
             let times = ((ROUND / once) as usize).max(1);
-            let rounds: Vec<[f64; 3]> = (0..ROUNDS)
+            let rounds: Vec<[f64; 2]> = (0..ROUNDS)
                 .map(|_| judges.map(|judge| pass(judge, &sheets, times, &mut scratch, &mut order)))
                 .collect();
             let lowest = |j: usize| rounds.iter().map(|r| r[j]).fold(f64::INFINITY, f64::min);
             let each = |j: usize| lowest(j) * 1e9 / (times * sheets.len()) as f64;
-            println!(
-                "| {n} | {name} | {:.0} | {:.0} | {:.2} | {:.0} | {:.2} |",
-                each(0),
-                each(1),
-                each(0) / each(1),
-                each(2),
-                each(0) / each(2)
-            );
+            println!("| {n} | {name} | {:.0} | {:.0} | {:.2} |", each(0), each(1), each(0) / each(1));
         }
     }
     println!("\nlists that are accepted, the two checks in turn");

@@ -12,8 +12,8 @@ pub fn check(sheet: &[u8], list: &[u8]) -> u64 {
     if let Err((number, place)) = read.sheet(sheet) {
         return refused(number, place);
     }
-    if read.differs_at != usize::MAX {
-        let (reader, address, writer) = read.row(sheet, read.differs_at);
+    if read.differs {
+        let (reader, address, writer) = read.differing(sheet);
         return broken(21, [reader, writer, 255, address]);
     }
     let t = Tables::of(sheet, &read);
@@ -51,7 +51,9 @@ pub fn check(sheet: &[u8], list: &[u8]) -> u64 {
     for run in read.runs() {
         let between = t.barred(&read, run) & front[run.reader as usize & 31] & !front[run.writer as usize & 31];
         if between != 0 {
-            let names = [run.reader, run.writer, between.trailing_zeros() as u8, run.address];
+            let of_run = |&(reader, _, writer): &(u8, u8, u8)| (reader, writer) == (run.reader, run.writer);
+            let (_, address, _) = read.rows(sheet).find(of_run).expect("a run has a row");
+            let names = [run.reader, run.writer, between.trailing_zeros() as u8, address];
             return not_accepted(4, u32::from_be_bytes(names) as u64);
         }
     }

@@ -52,8 +52,8 @@ pub fn judge(sheet: &[u8], scratch: &mut [u8], order: &mut [u8]) -> u64 {
     }
     let marks = &mut scratch[..needed];
     marks.fill(0);
-    if read.differs_at != usize::MAX {
-        let (reader, address, writer) = read.row(sheet, read.differs_at);
+    if read.differs {
+        let (reader, address, writer) = read.differing(sheet);
         return broken(21, [reader, writer, 255, address]);
     }
     let t = Tables::of(sheet, &read);
@@ -181,14 +181,12 @@ impl Tables {
                 return (22, [e as u8, 255, 255, 255]);
             }
         }
-        // of a run the first row is the first
-        for run in r.runs() {
-            if bit(self.succ[run.reader as usize & 31], run.writer as usize) {
-                return (23, [run.reader, run.writer, 255, run.address]);
+        for (reader, address, writer) in r.rows(sheet) {
+            if bit(self.succ[reader as usize & 31], writer as usize) {
+                return (23, [reader, writer, 255, address]);
             }
         }
-        for at in (r.rows_at..r.pairs_at).step_by(6) {
-            let (reader, address, writer) = r.row(sheet, at);
+        for (reader, address, writer) in r.rows(sheet) {
             let over = r.writers[address as usize & 63];
             let between = over & self.succ[writer as usize & 31] & self.pred[reader as usize & 31];
             if between != 0 {

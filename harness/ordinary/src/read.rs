@@ -8,18 +8,78 @@ const ROW: u32 = u32::from_le_bytes([3, 0, 3, 0]);
 /// A pair's field begins so: tag 4, length 2.
 const PAIR: u32 = u32::from_le_bytes([4, 0, 2, 0]);
 
-/// The widths that an event other than an init may have, a bit each, by kind times 4 plus mode; none where these two do not
-/// go together.
-const WIDTHS: [u16; 32] = {
-    let mut widths = [0; 32];
+/// What kind, mode and width together say of an event that is no init.
+#[derive(Clone, Copy)]
+struct Shape {
+    /// How many bytes of data it has; more than any length for what is no event.
+    data: u32,
+    /// The bytes from its start on that it reads, that it writes.
+    reads: u8,
+    writes: u8,
+    /// How many bytes it reads; how many stand before those that it writes.
+    read: u8,
+    skip: u8,
+    /// The bits of its start that must be zero; that must be so that it may be tear-free.
+    aligned: u8,
+    whole: u8,
+    /// The width is 2 to this power.
+    power: u8,
+    /// All ones for an sc access; for one that is or may be tear-free.
+    sc: u8,
+    tear_free: u8,
+    /// All ones for each of eight bytes that it writes.
+    over: [u32; 8],
+}
+
+/// By kind times 4 plus mode, then by width.
+static SHAPES: [[Shape; 16]; 32] = {
+    let none = Shape {
+        data: 1 << 16,
+        reads: 0,
+        writes: 0,
+        read: 0,
+        skip: 0,
+        aligned: 0,
+        whole: 0,
+        power: 0,
+        sc: 0,
+        tear_free: 0,
+        over: [0; 8],
+    };
+    let mut shapes = [[none; 16]; 32];
     let accesses = [(READ, UNORDERED), (READ, SC), (WRITE, UNORDERED), (WRITE, SC), (RMW, SC)];
     let mut i = 0;
     while i < accesses.len() {
-        widths[(accesses[i].0 * 4 + accesses[i].1) as usize] = 1 << 1 | 1 << 2 | 1 << 4 | 1 << 8;
+        let (kind, mode) = accesses[i];
+        let mut power = 0;
+        while power < 4 {
+            let width = 1u8 << power;
+            let bytes = ((1u16 << width) - 1) as u8;
+            let mut over = [0; 8];
+            let mut byte = 0;
+            while kind != READ && byte < width {
+                over[byte as usize] = u32::MAX;
+                byte += 1;
+            }
+            shapes[(kind * 4 + mode) as usize][width as usize] = Shape {
+                data: (if kind == RMW { 2 * width } else { width }) as u32,
+                reads: if kind != WRITE { bytes } else { 0 },
+                writes: if kind != READ { bytes } else { 0 },
+                read: if kind != WRITE { width } else { 0 },
+                skip: if kind == RMW { width } else { 0 },
+                aligned: if mode == SC { width - 1 } else { 0 },
+                whole: width - 1,
+                power,
+                sc: if mode == SC { 255 } else { 0 },
+                tear_free: if mode == SC || width < 8 { 255 } else { 0 },
+                over,
+            };
+            power += 1;
+        }
         i += 1;
     }
-    widths[(MARKER * 4 + SC) as usize] = 1;
-    widths
+    shapes[(MARKER * 4 + SC) as usize][0] = Shape { data: 0, aligned: 255, ..none };
+    shapes
 };
 
 /// An event as the rows' tests and the tables want it.
@@ -42,8 +102,6 @@ pub struct Event {
 pub struct Run {
     pub reader: u8,
     pub writer: u8,
-    /// The address of its first row.
-    pub address: u8,
     /// The events, inits aside, that write one of its addresses.
     pub over: u32,
 }
@@ -60,8 +118,8 @@ pub struct Read {
     /// Where the first row, the first pair and the end of the sheet stand.
     pub rows_at: usize,
     pub pairs_at: usize,
-    /// Where the first row stands whose two bytes differ, or `usize::MAX`.
-    pub differs_at: usize,
+    /// Some row's two bytes differ.
+    pub differs: bool,
     /// By agent, its events.
     pub of_agent: [u32; 16],
     event: [MaybeUninit<Event>; SLOTS],
@@ -81,7 +139,7 @@ impl Read {
             runs: 0,
             rows_at: 0,
             pairs_at: 0,
-            differs_at: usize::MAX,
+            differs: false,
             of_agent: [0; 16],
             event: [const { MaybeUninit::uninit() }; SLOTS],
             run: [const { MaybeUninit::uninit() }; MAX_RUNS],
@@ -115,6 +173,17 @@ impl Read {
             return Err((5, 0));
         }
         (self.front, self.agents, self.size) = (4 + edition as usize, agents, size);
+        if edition == 1 {
+            self.fields::<5>(sheet)
+        } else {
+            self.fields::<6>(sheet)
+        }
+    }
+
+    /// The fields behind the head; an event's data stand at `FRONT` in its value.
+    #[inline(always)]
+    fn fields<const FRONT: usize>(&mut self, sheet: &[u8]) -> Result<(), (u8, usize)> {
+        let (agents, size) = (self.agents, self.size);
         let mut at = 6;
         let mut covered = 0u64;
         // SAFETY, here and below: loads from the sheet stand behind a comparison with its length.
@@ -127,15 +196,15 @@ impl Read {
             let length = (high as usize) << 8 | low as usize;
             let end = at + 3 + length;
             let fits = agent == 0 && kind == WRITE && width > 0 && start + width <= size as usize;
-            if !fits || length != self.front + width || end > sheet.len() || self.inits == MAX_INITS {
+            if !fits || length != FRONT + width || end > sheet.len() || self.inits == MAX_INITS {
                 return Err(self.fault(sheet, at, 2, covered, 0));
             }
             let bytes = range(start, width);
-            if covered & bytes != 0 || self.front == 6 && sheet[at + 8] != 0 {
+            if covered & bytes != 0 || FRONT == 6 && sheet[at + 8] != 0 {
                 return Err(self.fault(sheet, at, 2, covered, 0));
             }
             covered |= bytes;
-            let written = (at + 3 + self.front) as i32 - start as i32;
+            let written = (at + 3 + FRONT) as i32 - start as i32;
             self.event[self.events & 31].write(Event {
                 reads: 0,
                 writes: bytes,
@@ -152,65 +221,54 @@ impl Read {
         let mut present = 1u16; // the agents that have events, and agent 0
         let mut read = 0; // the bytes that are read
         let most = self.inits + MAX_OTHERS;
-        let front = self.front;
         let mut n = self.events;
         while at + 8 <= sheet.len() {
-            let [tag, high, low, agent, kind, mode, start, width] = unsafe { load::<8>(sheet, at) };
+            let field = u64::from_le_bytes(unsafe { load(sheet, at) });
+            let [tag, high, low, agent, kind, mode, start, width] = field.to_le_bytes();
             if tag != 2 {
                 break;
             }
-            let (from, wide) = (start as usize, width as usize);
             let length = (high as usize) << 8 | low as usize;
             let end = at + 3 + length;
-            let widths = WIDTHS[(kind << 2 | mode) as usize & 31] as u32;
-            let data = wide << (kind == RMW) as usize;
-            let slack = if mode == SC { wide.wrapping_sub(1) & from } else { 0 };
-            let bad = (kind > 4)
-                | (mode > 2)
-                | (width > 8)
-                | (widths >> (width & 31) & 1 == 0)
-                | (slack != 0)
+            let shape = &SHAPES[(kind << 2 | mode) as usize & 31][width as usize & 15];
+            let bad = (field & 0xf000_fcf8_0000_0000 != 0)
+                | (length != FRONT + shape.data as usize)
+                | (start & shape.aligned != 0)
                 | (agent.wrapping_sub(1) >= agents)
-                | (from + wide > size as usize)
-                | (length != front + data)
+                | (start as usize + width as usize > size as usize)
                 | (end > sheet.len())
                 | (n == most);
             if bad {
                 self.events = n;
                 return Err(self.fault(sheet, at, 2, covered, 0));
             }
-            let must = mode == SC && kind != MARKER;
-            let may = must | (mode == UNORDERED && width < 8 && wide.wrapping_sub(1) & from == 0);
-            let mut tear_free = may;
-            if front == 6 {
-                // the least value has eight bytes and a ninth, the tear byte
-                let tear = sheet[at + 8];
-                if tear < must as u8 || tear > may as u8 {
+            let mut tear_free = if start & shape.whole == 0 { shape.tear_free } else { 0 };
+            if FRONT == 6 {
+                // SAFETY: the value has six bytes at least
+                let [tear] = unsafe { load(sheet, at + 8) };
+                if tear < shape.sc & 1 || tear > tear_free & 1 {
                     self.events = n;
                     return Err(self.fault(sheet, at, 2, covered, 0));
                 }
-                tear_free = tear == 1;
+                tear_free &= tear.wrapping_neg();
             }
             let me = 1u32 << n;
-            let bytes = ((1u64 << width) - 1) << (start & 63);
-            let (reading, writing) = (kind & 1, kind >> 1 & 1);
-            let id = if wide == 0 { 0 } else { (64 + start) >> width.trailing_zeros() };
-            let data_at = (at + 3 + front) as i32 - from as i32;
+            let id = (64 + start) >> shape.power;
+            let data = (at + 3 + FRONT) as i32 - start as i32;
             self.event[n & 31].write(Event {
-                reads: if reading != 0 { bytes } else { 0 },
-                writes: if writing != 0 { bytes } else { 0 },
-                seen: data_at,
-                written: data_at + if kind == RMW { wide as i32 } else { 0 },
-                sc: if mode == SC { id } else { 0 },
-                whole: if tear_free { id } else { 0 },
+                reads: (shape.reads as u64) << (start & 63),
+                writes: (shape.writes as u64) << (start & 63),
+                seen: data,
+                written: data + shape.skip as i32,
+                sc: id & shape.sc,
+                whole: id & tear_free,
                 agent,
             });
-            let writer = if writing != 0 { me } else { 0 };
-            let covers = &COVERS[wide];
-            for (slot, one) in self.writers[from & 63..][..8].iter_mut().zip(covers) {
-                *slot |= writer & one;
+            let writers = self.writers[start as usize & 63..][..8].iter_mut();
+            for (slot, one) in writers.zip(&shape.over) {
+                *slot |= me & one;
             }
-            read += if reading != 0 { wide } else { 0 };
+            read += shape.read as usize;
             present |= 1 << agent;
             self.of_agent[agent as usize & 15] |= me;
             n += 1;
@@ -220,10 +278,9 @@ impl Read {
         self.rows_at = at;
         let mut last = 0; // the last row's reader and address, plus 1
         let mut runs = 0usize;
-        let mut before = u32::MAX; // the reader and writer of the run
+        let mut before = usize::MAX; // the reader and writer of the run
         let mut over = 0;
-        let mut address_of_run = 0;
-        let mut differs_at = usize::MAX;
+        let mut differs = 0;
         while at + 6 <= sheet.len() {
             let field = u32::from_le_bytes(unsafe { load(sheet, at) });
             let [address, writer] = unsafe { load(sheet, at + 4) };
@@ -242,25 +299,18 @@ impl Read {
             last = key + 1;
             let (seen, written) = (reading.seen + address as i32, writing.written + address as i32);
             // SAFETY: both events have this address, and their data stand in the sheet.
-            let differs = unsafe { sheet.get_unchecked(seen as usize) != sheet.get_unchecked(written as usize) };
-            differs_at = differs_at.min(if differs { at } else { usize::MAX });
-            let both = (r << 8 | w) as u32;
+            differs |= unsafe { sheet.get_unchecked(seen as usize) ^ sheet.get_unchecked(written as usize) };
+            let both = r << 8 | w;
             let new = both != before;
             before = both;
             runs += new as usize;
             over = if new { 0 } else { over } | self.writers[address as usize];
-            address_of_run = if new { address } else { address_of_run };
             // SAFETY: readers have at most 18 times 8 addresses, which rise.
-            unsafe { self.run.get_unchecked_mut(runs - 1) }.write(Run {
-                reader: r as u8,
-                writer,
-                address: address_of_run,
-                over,
-            });
+            unsafe { self.run.get_unchecked_mut(runs - 1) }.write(Run { reader: r as u8, writer, over });
             at += 6;
         }
         self.runs = runs;
-        self.differs_at = differs_at;
+        self.differs = differs != 0;
         self.pairs_at = at;
         if at != sheet.len() {
             let mut last = 0;
@@ -310,9 +360,20 @@ impl Read {
         Ok(())
     }
 
-    /// A row's reader, address, writer.
-    pub fn row(&self, sheet: &[u8], at: usize) -> (u8, u8, u8) {
-        (sheet[at + 3], sheet[at + 4], sheet[at + 5])
+    /// The rows, one after the other: reader, address, writer.
+    pub fn rows<'a>(&self, sheet: &'a [u8]) -> impl Iterator<Item = (u8, u8, u8)> + 'a {
+        sheet[self.rows_at..self.pairs_at].chunks_exact(6).map(|field| (field[3], field[4], field[5]))
+    }
+
+    /// The first row whose two bytes differ.
+    #[cold]
+    pub fn differing(&self, sheet: &[u8]) -> (u8, u8, u8) {
+        let differ = |&(reader, address, writer): &(u8, u8, u8)| {
+            let (read, write) = (self.event(reader as usize), self.event(writer as usize));
+            let at = |of: i32| (of + address as i32) as usize;
+            sheet[at(read.seen)] != sheet[at(write.written)]
+        };
+        self.rows(sheet).find(differ).expect("some row does")
     }
 
     /// The pairs, first to second.
@@ -324,9 +385,7 @@ impl Read {
     #[cold]
     fn lacking(&self, sheet: &[u8]) -> usize {
         let mut rows = [0u32; SLOTS];
-        for at in (self.rows_at..self.pairs_at).step_by(6) {
-            rows[self.row(sheet, at).0 as usize & 31] += 1;
-        }
+        self.rows(sheet).for_each(|(reader, ..)| rows[reader as usize & 31] += 1);
         let lacks = |e: &usize| self.event(*e).reads.count_ones() != rows[*e];
         let e = (self.inits..self.events).find(lacks).expect("fewer rows than bytes are read");
         (self.event(e).seen + self.event(e).reads.trailing_zeros() as i32) as usize - 3 - self.front
@@ -421,21 +480,6 @@ impl Read {
         9
     }
 }
-
-/// By width, which of eight bytes it covers.
-const COVERS: [[u32; 8]; 9] = {
-    let mut covers = [[0; 8]; 9];
-    let mut width = 0;
-    while width < 9 {
-        let mut byte = 0;
-        while byte < width {
-            covers[width][byte] = u32::MAX;
-            byte += 1;
-        }
-        width += 1;
-    }
-    covers
-};
 
 /// The bytes of a range as a mask; the width is not 0.
 fn range(start: usize, width: usize) -> u64 {

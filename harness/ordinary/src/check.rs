@@ -16,7 +16,8 @@ pub fn check(sheet: &[u8], list: &[u8]) -> u64 {
         let (reader, address, writer) = read.differing(sheet);
         return broken(21, [reader, writer, 255, address]);
     }
-    let t = Tables::of(sheet, &read);
+    let mut t = Tables::new();
+    t.fill(sheet, &read);
     if t.breaks(&read) {
         let (number, names) = t.broken(sheet, &read);
         return broken(number, names);
@@ -40,7 +41,7 @@ pub fn check(sheet: &[u8], list: &[u8]) -> u64 {
     for (i, &e) in list.iter().enumerate() {
         let e = e as usize & 31;
         let event = read.event(e);
-        let mut before = t.pred[e];
+        let mut before = t.before.pred[e];
         for init in 0..read.inits {
             before |= u32::from(init != e && read.event(init).writes & (event.reads | event.writes) != 0) << init;
         }

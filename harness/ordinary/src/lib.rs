@@ -56,12 +56,15 @@ pub fn judge(sheet: &[u8], scratch: &mut [u8], order: &mut [u8]) -> u64 {
         let (reader, address, writer) = read.differing(sheet);
         return broken(21, [reader, writer, 255, address]);
     }
-    let t = Tables::of(sheet, &read);
+    let mut t = Tables::new();
+    t.fill(sheet, &read);
     if t.breaks(&read) {
         let (number, names) = t.broken(sheet, &read);
         return broken(number, names);
     }
-    if !Bars::of(&t, &read).first_order(&read, marks, order) {
+    let mut bars = Bars::new();
+    bars.fill(&t, &read);
+    if !bars.first_order(&read, marks, order) {
         return (2 << 40) + (26 << 32) + u32::MAX as u64;
     }
     match t.unsettled(&read) {
@@ -82,63 +85,21 @@ fn bit(mask: u32, e: usize) -> bool {
     mask >> (e & 31) & 1 != 0
 }
 
-/// Happens-before, and what else is asked by event; every set of events is a mask.
-///
-/// Inits happen before every event that overlaps them and those behind, and nothing before them. Where an init is asked for
-/// as a writer W, each event in question shares a byte with it: so its row of successors is full, and no set of
-/// predecessors holds one.
-struct Tables {
+/// A transitive relation over events, by rows and by columns.
+#[derive(Clone, Copy)]
+struct Relation {
     succ: [u32; SLOTS],
     pred: [u32; SLOTS],
-    /// By range of an sc access, the events that write there as sc ones; none at 0. Slots of other ranges hold nothing.
-    writers: [MaybeUninit<u32>; 128],
-    /// Some event happens before itself.
+    /// Some event comes before itself.
     cycle: bool,
 }
 
-impl Tables {
+impl Relation {
+    /// More of it: all up to one of the first come before all from one of the second on. Of these two sets one is a single
+    /// event, and where no cycle comes of it that is the closure.
     #[inline(always)]
-    fn of(sheet: &[u8], r: &Read) -> Tables {
-        let mut t = Tables {
-            succ: [0; SLOTS],
-            pred: [0; SLOTS],
-            writers: [const { MaybeUninit::uninit() }; 128],
-            cycle: false,
-        };
-        t.writers[0].write(0);
-        for e in r.inits..r.events {
-            t.writers[r.event(e).sc as usize & 127].write(0);
-        }
-        for e in r.inits..r.events {
-            let event = r.event(e);
-            let agent = r.of_agent[event.agent as usize & 15];
-            t.succ[e & 31] = agent & u32::MAX << e << 1;
-            t.pred[e & 31] = agent & ((1 << e) - 1);
-            // SAFETY: written above.
-            let slot = unsafe { t.writers[event.sc as usize & 127].assume_init_mut() };
-            *slot |= u32::from(event.writes != 0 && event.sc != 0) << e;
-        }
-        for run in r.runs() {
-            let (reader, writer) = (run.reader as usize, run.writer as usize);
-            if synchronised(r, run) && !bit(t.succ[writer & 31], reader) {
-                t.edge(writer, reader);
-            }
-        }
-        for (first, second) in r.pairs(sheet) {
-            t.edge(first, second);
-        }
-        for e in 0..r.inits {
-            t.succ[e & 31] = u32::MAX;
-        }
-        t
-    }
-
-    /// One step more: all up to the first happen before all from the second on.
-    #[inline(always)]
-    fn edge(&mut self, first: usize, second: usize) {
-        let up_to = self.pred[first & 31] | 1 << first;
-        let from = self.succ[second & 31] | 1 << second;
-        self.cycle |= bit(up_to, second);
+    fn add(&mut self, up_to: u32, from: u32) {
+        self.cycle |= up_to & from != 0;
         for (e, row) in self.succ[..ROWS].iter_mut().enumerate() {
             *row |= if up_to & 1 << e != 0 { from } else { 0 };
         }
@@ -147,23 +108,83 @@ impl Tables {
         }
     }
 
+    /// The event and all before it; and all behind it.
+    #[inline(always)]
+    fn up_to(&self, e: usize) -> u32 {
+        self.pred[e & 31] | 1 << e
+    }
+    #[inline(always)]
+    fn from(&self, e: usize) -> u32 {
+        self.succ[e & 31] | 1 << e
+    }
+}
+
+/// Happens-before, and what else is asked by event; every set of events is a mask.
+///
+/// Inits happen before every event that overlaps them and those behind, and nothing before them. Where an init is asked for
+/// as a writer W, each event in question shares a byte with it: so its row of successors is full, and no set of
+/// predecessors holds one.
+struct Tables {
+    before: Relation,
+    /// By range of an sc access, the events that write there as sc ones; none at 0. Slots of other ranges hold nothing.
+    writers: [MaybeUninit<u32>; 128],
+}
+
+impl Tables {
+    fn new() -> Tables {
+        Tables {
+            before: Relation { succ: [0; SLOTS], pred: [0; SLOTS], cycle: false },
+            writers: [const { MaybeUninit::uninit() }; 128],
+        }
+    }
+
+    #[inline(always)]
+    fn fill(&mut self, sheet: &[u8], r: &Read) {
+        let t = self;
+        t.writers[0].write(0);
+        for e in r.inits..r.events {
+            t.writers[r.event(e).sc as usize & 127].write(0);
+        }
+        for e in r.inits..r.events {
+            let event = r.event(e);
+            let agent = r.of_agent[event.agent as usize & 15];
+            t.before.succ[e & 31] = agent & u32::MAX << e << 1;
+            t.before.pred[e & 31] = agent & ((1 << e) - 1);
+            // SAFETY: written above.
+            let slot = unsafe { t.writers[event.sc as usize & 127].assume_init_mut() };
+            *slot |= u32::from(event.writes != 0 && event.sc != 0) << e;
+        }
+        for run in r.runs() {
+            let (reader, writer) = (run.reader as usize, run.writer as usize);
+            if synchronised(r, run) && !bit(t.before.succ[writer & 31], reader) {
+                t.before.add(t.before.up_to(writer), t.before.from(reader));
+            }
+        }
+        for (first, second) in r.pairs(sheet) {
+            t.before.add(t.before.up_to(first), t.before.from(second));
+        }
+        for e in 0..r.inits {
+            t.before.succ[e & 31] = u32::MAX;
+        }
+    }
+
     /// The sc events that write the whole range of this sc one; none for other events.
     #[inline(always)]
     fn equal(&self, r: &Read, e: usize) -> u32 {
-        // SAFETY: `of` has written the slot of each event's range, and 0.
+        // SAFETY: `fill` has written the slot of each event's range, and 0.
         unsafe { self.writers[r.event(e).sc as usize & 127].assume_init() }
     }
 
     /// Whether a rule from 22 to 25 is broken.
     #[inline(always)]
     fn breaks(&self, r: &Read) -> bool {
-        let mut hit = self.cycle as u32;
+        let mut hit = self.before.cycle as u32;
         let mut last = u8::MAX;
         let mut wholes = 0u32; // the tear-free writers with the reader's range
         for run in r.runs() {
             let (e, w) = (run.reader as usize & 31, run.writer as usize & 31);
-            hit |= self.succ[e] >> w & 1;
-            hit |= run.over & self.succ[w] & self.pred[e];
+            hit |= self.before.succ[e] >> w & 1;
+            hit |= run.over & self.before.succ[w] & self.before.pred[e];
             let (read, write) = (r.event(e), r.event(w));
             let whole = read.whole == write.whole && read.whole != 0;
             wholes = if run.reader == last { wholes } else { 0 } | u32::from(whole) << w;
@@ -177,18 +198,18 @@ impl Tables {
     #[cold]
     fn broken(&self, sheet: &[u8], r: &Read) -> (u8, [u8; 4]) {
         for e in r.inits..r.events {
-            if bit(self.succ[e], e) {
+            if bit(self.before.succ[e], e) {
                 return (22, [e as u8, 255, 255, 255]);
             }
         }
         for (reader, address, writer) in r.rows(sheet) {
-            if bit(self.succ[reader as usize & 31], writer as usize) {
+            if bit(self.before.succ[reader as usize & 31], writer as usize) {
                 return (23, [reader, writer, 255, address]);
             }
         }
         for (reader, address, writer) in r.rows(sheet) {
             let over = r.writers[address as usize & 63];
-            let between = over & self.succ[writer as usize & 31] & self.pred[reader as usize & 31];
+            let between = over & self.before.succ[writer as usize & 31] & self.before.pred[reader as usize & 31];
             if between != 0 {
                 return (24, [reader, writer, between.trailing_zeros() as u8, address]);
             }
@@ -209,7 +230,7 @@ impl Tables {
     fn barred(&self, r: &Read, run: &Run) -> u32 {
         let (e, w) = (run.reader as usize & 31, run.writer as usize & 31);
         let (as_reader, as_writer) = (self.equal(r, e), self.equal(r, w));
-        let (succ, pred) = (self.succ[w], self.pred[e]);
+        let (succ, pred) = (self.before.succ[w], self.before.pred[e]);
         let a = if synchronised(r, run) { as_reader } else { 0 };
         let b_or_c = if bit(succ, e) { as_writer & pred | as_reader & succ } else { 0 };
         (a | b_or_c) & !(1 << e | 1 << w)
@@ -227,7 +248,7 @@ impl Tables {
             let event = r.event(e);
             let mine = event.reads | event.writes;
             let partners = writes | if event.writes != 0 { reads } else { 0 };
-            let mut left = partners & !(self.succ[e & 31] | self.pred[e & 31]) & u32::MAX << e << 1;
+            let mut left = partners & !(self.before.succ[e & 31] | self.before.pred[e & 31]) & u32::MAX << e << 1;
             while left != 0 {
                 let d = left.trailing_zeros() as usize;
                 let other = r.event(d);
@@ -248,7 +269,7 @@ fn synchronised(r: &Read, run: &Run) -> bool {
     read.sc == write.sc && read.sc != 0
 }
 
-/// Bars (R, W, V) whose W and V stand in no order: of a run, all V.
+/// Bars (R, W, V) of a run, all V.
 #[derive(Clone, Copy)]
 struct Bar {
     reader: u8,
@@ -256,93 +277,139 @@ struct Bar {
     between: u32,
 }
 
-/// What must be placed before an event, by event: all that happen before it, and the R of bars whose W does. And the other
-/// bars, as far as they bar anything.
+/// What waits for what: an event for all that happen before it, and V for the R of a bar whose W happens before V; by the one
+/// that waits, and by the other. And the other bars, as far as they bar anything.
 struct Bars {
     needs: [u32; SLOTS],
+    follow: [u32; SLOTS],
     count: usize,
     bars: [MaybeUninit<Bar>; MAX_RUNS],
 }
 
 impl Bars {
+    fn new() -> Bars {
+        Bars { needs: [0; SLOTS], follow: [0; SLOTS], count: 0, bars: [const { MaybeUninit::uninit() }; MAX_RUNS] }
+    }
+
     #[inline(always)]
-    fn of(t: &Tables, r: &Read) -> Bars {
-        let mut all = Bars { needs: t.pred, count: 0, bars: [const { MaybeUninit::uninit() }; MAX_RUNS] };
+    fn fill(&mut self, t: &Tables, r: &Read) {
+        self.needs = t.before.pred;
+        self.follow = t.before.succ;
         for run in r.runs() {
             let (e, w) = (run.reader as usize & 31, run.writer as usize & 31);
             // a V that happens before W, or that R happens before, is never in question
-            let between = t.barred(r, run) & !(t.pred[w] | t.succ[e]);
+            let between = t.barred(r, run) & !(t.before.pred[w] | t.before.succ[e]);
             if between == 0 {
                 continue;
             }
-            let after = between & t.succ[w];
-            for (v, row) in all.needs[..ROWS].iter_mut().enumerate() {
+            let after = between & t.before.succ[w];
+            self.follow[e] |= after;
+            for (v, row) in self.needs[..ROWS].iter_mut().enumerate() {
                 *row |= if after & 1 << v != 0 { 1 << e } else { 0 };
             }
-            let free = between & !t.succ[w];
-            // SAFETY: not more than runs.
-            unsafe { all.bars.get_unchecked_mut(all.count) }.write(Bar {
-                reader: run.reader,
-                writer: run.writer,
-                between: free,
-            });
-            all.count += usize::from(free != 0);
+            self.push(Bar { reader: run.reader, writer: run.writer, between: between & !after });
         }
-        all
+    }
+
+    /// A bar more, if it bars anything.
+    #[inline(always)]
+    fn push(&mut self, bar: Bar) {
+        // SAFETY: there are not more than runs.
+        unsafe { self.bars.get_unchecked_mut(self.count) }.write(bar);
+        self.count += usize::from(bar.between != 0);
+    }
+
+    #[inline(always)]
+    fn bars(&self) -> &[Bar] {
+        // SAFETY: so many are written.
+        unsafe { core::slice::from_raw_parts(self.bars.as_ptr().cast(), self.count) }
     }
 
     /// The V that are barred where these events are placed: W is and R is not.
     #[inline(always)]
     fn barred(&self, placed: u32) -> u32 {
-        // SAFETY: so many are written.
-        let bars: &[Bar] = unsafe { core::slice::from_raw_parts(self.bars.as_ptr().cast(), self.count) };
         let mut barred = 0;
-        for bar in bars {
-            barred |= if placed >> bar.writer & !(placed >> bar.reader) & 1 != 0 { bar.between } else { 0 };
+        for bar in self.bars() {
+            let bars = placed >> bar.writer & !(placed >> bar.reader) & 1;
+            barred |= bar.between & bars.wrapping_neg();
         }
         barred
     }
 
-    /// Depth first, always the lowest event that may be placed and does not lead to a set known to be a dead end; inits stand
-    /// first. The marks are zero before and after: a set is marked when it is left.
+    /// The first order: by the lowest event that may be placed, again and again; where that comes to a dead end, by the search.
     #[inline(always)]
     fn first_order(&self, r: &Read, marks: &mut [u8], order: &mut [u8]) -> bool {
-        let (inits, n) = (r.inits, r.events);
-        let all = ((1u64 << n) - 1) as u32;
         let mut path = [0u8; SLOTS];
-        for (e, slot) in path[..inits].iter_mut().enumerate() {
+        let found = self.lowest(r, &mut path) || self.search(r, marks, &mut path);
+        if found {
+            order[..r.events].copy_from_slice(&path[..r.events]);
+        }
+        found
+    }
+
+    /// The events that may be placed next: all that they need are, and no bar forbids it.
+    #[inline(always)]
+    fn ready(&self, placed: u32) -> u32 {
+        let mut waiting = placed | self.barred(placed);
+        for (e, follow) in self.follow[..ROWS].iter().enumerate() {
+            waiting |= if placed & 1 << e == 0 { *follow } else { 0 };
+        }
+        !waiting
+    }
+
+    /// Always the lowest event that may be placed, inits first, until all are or none may.
+    #[inline(always)]
+    fn lowest(&self, r: &Read, path: &mut [u8; SLOTS]) -> bool {
+        let mut placed = (1u32 << r.inits) - 1;
+        let all = (1u32 << r.events) - 1;
+        for (e, slot) in path[..r.inits].iter_mut().enumerate() {
             *slot = e as u8;
         }
+        for slot in &mut path[r.inits..r.events] {
+            // one by one: mostly the first may be placed
+            let mut left = !placed & all & !self.barred(placed);
+            loop {
+                if left == 0 {
+                    return false;
+                }
+                let v = left.trailing_zeros() as usize;
+                if self.needs[v] & !placed == 0 {
+                    *slot = v as u8;
+                    placed |= 1 << v;
+                    break;
+                }
+                left &= left - 1;
+            }
+        }
+        true
+    }
+
+    /// Depth first, always the lowest event that may be placed and does not lead to a set known to be a dead end; inits stand
+    /// first, in the path too. The marks are zero before and after: a set is marked when it is left.
+    fn search(&self, r: &Read, marks: &mut [u8], path: &mut [u8; SLOTS]) -> bool {
+        let (inits, n) = (r.inits, r.events);
+        let all = (1u32 << n) - 1;
         let mut depth = inits;
-        let mut placed = ((1u64 << inits) - 1) as u32;
+        let mut placed = (1u32 << inits) - 1;
         let mut dead = 0usize;
         let mut journal = [const { MaybeUninit::<u32>::uninit() }; JOURNAL];
-        let mut from = u32::MAX; // the events that are not tried already
+        let mut left = [0u32; SLOTS]; // by depth, what is to be tried
+        left[depth] = self.ready(placed) & all;
         let found = loop {
             if placed == all {
                 break true;
             }
-            let mut left = !placed & all & from & !self.barred(placed);
-            let next = loop {
-                if left == 0 {
-                    break SLOTS;
+            let ready = left[depth & 31];
+            if ready != 0 {
+                let next = ready & ready.wrapping_neg();
+                left[depth & 31] = ready ^ next;
+                let set = ((placed | next) >> inits) as usize;
+                if marks[set >> 3] >> (set & 7) & 1 == 0 {
+                    placed |= next;
+                    path[depth & 31] = next.trailing_zeros() as u8;
+                    depth += 1;
+                    left[depth & 31] = self.ready(placed) & all;
                 }
-                let v = left.trailing_zeros() as usize;
-                left &= left - 1;
-                if self.needs[v] & !placed != 0 {
-                    continue;
-                }
-                let set = ((placed | 1 << v) >> inits) as usize;
-                if dead != 0 && marks[set >> 3] >> (set & 7) & 1 != 0 {
-                    continue;
-                }
-                break v;
-            };
-            if next != SLOTS {
-                placed |= 1 << next;
-                path[depth & 31] = next as u8;
-                depth += 1;
-                from = u32::MAX;
                 continue;
             }
             if depth == inits {
@@ -355,9 +422,7 @@ impl Bars {
             }
             dead += 1;
             depth -= 1;
-            let v = path[depth & 31] as usize;
-            placed &= !(1u32 << v);
-            from = u32::MAX << v << 1;
+            placed ^= 1 << path[depth & 31];
         };
         if dead <= JOURNAL {
             for place in &journal[..dead] {
@@ -366,9 +431,6 @@ impl Bars {
             }
         } else {
             marks.fill(0);
-        }
-        if found {
-            order[..n].copy_from_slice(&path[..n]);
         }
         found
     }

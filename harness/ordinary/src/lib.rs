@@ -64,7 +64,7 @@ pub fn judge(sheet: &[u8], scratch: &mut [u8], order: &mut [u8]) -> u64 {
     }
     let mut bars = Bars::new();
     bars.fill(&t, &read);
-    if !bars.first_order(&read, marks, order) {
+    if !bars.first_order(&t, &read, marks, order) {
         return (2 << 40) + (26 << 32) + u32::MAX as u64;
     }
     match t.unsettled(&read) {
@@ -325,6 +325,46 @@ impl Bars {
         unsafe { core::slice::from_raw_parts(self.bars.as_ptr().cast(), self.count) }
     }
 
+    /// All that the bars force: where W comes before V, R does; where V comes before R, it comes before W; and so on. False
+    /// where that has a cycle, so that no order exists. Every order that meets the rules has all of it.
+    #[inline(never)]
+    fn force(&mut self, t: &Tables, r: &Read) -> bool {
+        self.count = 0;
+        for run in r.runs() {
+            let (e, w) = (run.reader as usize & 31, run.writer as usize & 31);
+            let between = t.barred(r, run) & !(t.before.pred[w] | t.before.succ[e]);
+            self.push(Bar { reader: run.reader, writer: run.writer, between });
+        }
+        let mut forced = t.before;
+        loop {
+            let all = core::mem::take(&mut self.count);
+            let mut more = false;
+            for i in 0..all {
+                // SAFETY: so many are written, and none behind this one is written anew.
+                let bar = unsafe { self.bars[i].assume_init() };
+                let (e, w) = (bar.reader as usize & 31, bar.writer as usize & 31);
+                let after = bar.between & forced.succ[w] & !forced.succ[e];
+                if after != 0 {
+                    forced.add(forced.up_to(e), members(after).fold(0, |from, v| from | forced.from(v)));
+                    more = true;
+                }
+                let before = bar.between & forced.pred[e] & !forced.pred[w];
+                if before != 0 {
+                    forced.add(members(before).fold(0, |up_to, v| up_to | forced.up_to(v)), forced.from(w));
+                    more = true;
+                }
+                if forced.cycle {
+                    return false;
+                }
+                self.push(Bar { between: bar.between & !(forced.pred[w] | forced.succ[e]), ..bar });
+            }
+            if !more {
+                self.follow = forced.succ;
+                return true;
+            }
+        }
+    }
+
     /// The V that are barred where these events are placed: W is and R is not.
     #[inline(always)]
     fn barred(&self, placed: u32) -> u32 {
@@ -336,11 +376,13 @@ impl Bars {
         barred
     }
 
-    /// The first order: by the lowest event that may be placed, again and again; where that comes to a dead end, by the search.
+    /// The first order: by the lowest event that may be placed, again and again. Where that comes to a dead end, what the bars
+    /// force is found out (with few events it takes longer than to go all ways), and then all ways are gone.
     #[inline(always)]
-    fn first_order(&self, r: &Read, marks: &mut [u8], order: &mut [u8]) -> bool {
+    fn first_order(&mut self, t: &Tables, r: &Read, marks: &mut [u8], order: &mut [u8]) -> bool {
         let mut path = [0u8; SLOTS];
-        let found = self.lowest(r, &mut path) || self.search(r, marks, &mut path);
+        let found = self.lowest(r, &mut path)
+            || (r.events - r.inits <= FEW || self.force(t, r)) && self.search(r, marks, &mut path);
         if found {
             order[..r.events].copy_from_slice(&path[..r.events]);
         }
@@ -386,6 +428,7 @@ impl Bars {
 
     /// Depth first, always the lowest event that may be placed and does not lead to a set known to be a dead end; inits stand
     /// first, in the path too. The marks are zero before and after: a set is marked when it is left.
+    #[inline(never)]
     fn search(&self, r: &Read, marks: &mut [u8], path: &mut [u8; SLOTS]) -> bool {
         let (inits, n) = (r.inits, r.events);
         let all = (1u32 << n) - 1;
@@ -436,5 +479,16 @@ impl Bars {
     }
 }
 
+/// The events of a set, rising.
+fn members(mut set: u32) -> impl Iterator<Item = usize> {
+    core::iter::from_fn(move || {
+        let e = set.trailing_zeros() as usize;
+        set &= set.wrapping_sub(1);
+        (e < SLOTS).then_some(e)
+    })
+}
+
 /// So many marks are taken back one by one; where there are more, all are cleared.
 const JOURNAL: usize = 256;
+/// With so many events that are not inits all ways are soon gone.
+const FEW: usize = 5;

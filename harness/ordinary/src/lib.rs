@@ -9,11 +9,9 @@
 #![no_std]
 
 mod check;
-mod close;
 mod read;
 
 pub use check::check;
-pub use close::close;
 use core::mem::MaybeUninit;
 use read::{Read, Run};
 

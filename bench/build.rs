@@ -1,4 +1,4 @@
-// Links the archives of target/native that bench/run has made.
+// Links the archives of the steps in target/native that bench/run has made; the judge's comes with the crate plimdrong.
 use std::path::PathBuf;
 
 fn main() {
@@ -9,4 +9,5 @@ fn main() {
         println!("cargo:rustc-link-lib=static={name}");
         println!("cargo:rerun-if-changed={}", libs.join(format!("lib{name}.a")).display());
     }
+    println!("cargo:rerun-if-env-changed=BENCH_BUILD");
 }

@@ -87,7 +87,7 @@ fn tasks(family: &str, n: usize) -> Vec<Task> {
             // an order is found with few steps back
             "found" => agents(n, &mut rng, 4, n / 2),
             // no order: agents with many bars, so that the search gives up after some thousands of sets
-            "none" => agents(n, &mut rng, (n / 2).min(8).max(2), 2 * n),
+            "none" => agents(n, &mut rng, (n / 2).clamp(2, 8), 2 * n),
             // every set but the full one is reachable, and no order: the last event waits for itself
             "every" => {
                 let mut t = Task { events: INITS + n, before: [0; 32], bars: [0; 1024] };

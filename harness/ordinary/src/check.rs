@@ -1,4 +1,4 @@
-//! A check of a list of event numbers (02 §5), with masks: to measure the proved one against.
+//! A check of a list of event numbers (02 §5), over the judge's tables: to measure the proved one against.
 
 use super::*;
 
@@ -8,12 +8,18 @@ fn not_accepted(number: u64, low: u64) -> u64 {
 
 /// The word of 02 §5.
 pub fn check(sheet: &[u8], list: &[u8]) -> u64 {
-    let read = match read(sheet) {
-        Ok(read) => read,
-        Err((number, place)) => return refused(number, place),
-    };
-    let t = Tables::of(sheet, &read);
-    if let Some((number, names)) = t.broken(sheet, &read) {
+    let mut read = Read::new();
+    if let Err((number, place)) = read.sheet(sheet) {
+        return refused(number, place);
+    }
+    if read.differs {
+        let (reader, address, writer) = read.differing(sheet);
+        return broken(21, [reader, writer, 255, address]);
+    }
+    let mut t = Tables::new();
+    t.fill(sheet, &read);
+    if t.breaks(&read) {
+        let (number, names) = t.broken(sheet, &read);
         return broken(number, names);
     }
     let n = read.events;
@@ -31,23 +37,24 @@ pub fn check(sheet: &[u8], list: &[u8]) -> u64 {
         front[e & 31] = placed;
         placed |= 1 << e;
     }
+    // the inits that an event overlaps happen before it; one that does so by way of another event is behind that one's
     for (i, &e) in list.iter().enumerate() {
         let e = e as usize & 31;
-        if t.pred[e] & !front[e] != 0 {
+        let event = read.event(e);
+        let mut before = t.before.pred[e];
+        for init in 0..read.inits {
+            before |= u32::from(init != e && read.event(init).writes & (event.reads | event.writes) != 0) << init;
+        }
+        if before & !front[e] != 0 {
             return not_accepted(3, i as u64);
         }
     }
-    let mut last = (usize::MAX, usize::MAX);
-    for i in 0..read.rows {
-        let (reader, address, writer) = read.row(sheet, i);
-        // further bytes of the same row's two events add nothing
-        if (reader, writer) == last {
-            continue;
-        }
-        last = (reader, writer);
-        let between = t.barred(reader, writer) & front[reader & 31] & !front[writer & 31];
+    for run in read.runs() {
+        let between = t.barred(&read, run) & front[run.reader as usize & 31] & !front[run.writer as usize & 31];
         if between != 0 {
-            let names = [reader as u8, writer as u8, between.trailing_zeros() as u8, address as u8];
+            let of_run = |&(reader, _, writer): &(u8, u8, u8)| (reader, writer) == (run.reader, run.writer);
+            let (_, address, _) = read.rows(sheet).find(of_run).expect("a run has a row");
+            let names = [run.reader, run.writer, between.trailing_zeros() as u8, address];
             return not_accepted(4, u32::from_be_bytes(names) as u64);
         }
     }

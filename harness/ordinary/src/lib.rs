@@ -1,23 +1,30 @@
-//! Two ordinary Rust judges to measure the proved one against; what they answer is compared with the second program.
-//! `same` goes test by test, as the proved judge did before its steps took masks. The one here has the same closure, bars
-//! and search, and tables of masks (events with equal and with overlapping ranges, writers by byte), so that whole sets
-//! replace tests one by one: today the nearer of the two to the proved judge's method. Both take sheets of editions 1 and 2.
-//! `check` is a check of a list (02 §5) over the same masks.
+//! An ordinary Rust judge to measure the proved one against: the best that we could write by the same method, for editions
+//! 1 and 2. What it answers is compared with the second program. `check` is a check of a list (02 §5) over the same tables.
+//!
+//! What makes it quick: a field that passes is read by a few tests without jumps between them; rows of the same reader and
+//! writer are one run; the sets of bytes and of events are masks; happens-before grows an edge at a time and leaves the
+//! inits out, of which everything asked is known; whatever is rare (a refusal, a broken rule) is only noticed, and looked
+//! for again apart.
 
 #![no_std]
 
 mod check;
-pub mod same;
+mod read;
 
 pub use check::check;
+use core::mem::MaybeUninit;
+use read::{Read, Run};
 
 /// The head's limits and the sheet's, as document 01 gives them.
 const MAX_SHEET: usize = 4096;
 const MAX_INITS: usize = 4;
 const MAX_OTHERS: usize = 18;
 const MAX_PAIRS: usize = 32;
-/// Slots of a table over events: as many as a mask has bits.
+/// A run has at least one row, and a reader at most eight.
+const MAX_RUNS: usize = 8 * MAX_OTHERS;
+/// Slots of a table over events: as many as a mask has bits; and of one that is gone over from end to end.
 const SLOTS: usize = 32;
+const ROWS: usize = 24;
 
 const READ: u8 = 1;
 const WRITE: u8 = 2;
@@ -29,10 +36,10 @@ const SC: u8 = 2;
 
 /// The word of document 01.
 pub fn judge(sheet: &[u8], scratch: &mut [u8], order: &mut [u8]) -> u64 {
-    let read = match read(sheet) {
-        Ok(read) => read,
-        Err((number, place)) => return refused(number, place),
-    };
+    let mut read = Read::new();
+    if let Err((number, place)) = read.sheet(sheet) {
+        return refused(number, place);
+    }
     let n = read.events - read.inits;
     let needed = ((1usize << n) / 8).max(1);
     if scratch.len() < needed {
@@ -43,16 +50,22 @@ pub fn judge(sheet: &[u8], scratch: &mut [u8], order: &mut [u8]) -> u64 {
     }
     let marks = &mut scratch[..needed];
     marks.fill(0);
-    let t = Tables::of(sheet, &read);
-    if let Some((number, names)) = t.broken(sheet, &read) {
+    if read.differs {
+        let (reader, address, writer) = read.differing(sheet);
+        return broken(21, [reader, writer, 255, address]);
+    }
+    let mut t = Tables::new();
+    t.fill(sheet, &read);
+    if t.breaks(&read) {
+        let (number, names) = t.broken(sheet, &read);
         return broken(number, names);
     }
-    let found = Bars::of(&t, sheet, &read).first_order(&t, &read, marks, order);
-    marks.fill(0);
-    if !found {
+    let mut bars = Bars::new();
+    bars.fill(&t, &read);
+    if !bars.first_order(&t, &read, marks, order) {
         return (2 << 40) + (26 << 32) + u32::MAX as u64;
     }
-    match t.unsettled(read.events) {
+    match t.unsettled(&read) {
         None => (3 << 40) + u32::MAX as u64,
         Some((e, d)) => (3 << 40) + (1 << 32) + u32::from_be_bytes([e, d, 255, 255]) as u64,
     }
@@ -66,547 +79,414 @@ fn broken(number: u8, names: [u8; 4]) -> u64 {
     (2 << 40) + ((number as u64) << 32) + u32::from_be_bytes(names) as u64
 }
 
-/// What the reader hands over: counts, and where in the sheet things stand.
-struct Read {
-    /// The offset of the data in an event's value: 5, or 6 where a tear byte stands before it.
-    front: usize,
-    agents: u8,
-    size: u8,
-    inits: usize,
-    events: usize,
-    /// The offset of each event's value.
-    at: [u16; SLOTS],
-    /// The offset of the first row's field and of the first pair's, and how many there are.
-    rows_at: usize,
-    rows: usize,
-    pairs_at: usize,
-    pairs: usize,
-}
-
-impl Read {
-    fn event<'a>(&self, sheet: &'a [u8], e: usize) -> &'a [u8] {
-        &sheet[self.at[e] as usize..]
-    }
-    /// Whether this value's event, of a whole sheet, is tear-free.
-    fn tear_free(&self, event: &[u8]) -> bool {
-        if self.front == 6 {
-            event[5] == 1
-        } else {
-            event[2] == SC || unbroken(event[2], event[3] as usize, event[4] as usize)
-        }
-    }
-    /// A row's reader, address, writer.
-    fn row(&self, sheet: &[u8], i: usize) -> (usize, usize, usize) {
-        let at = self.rows_at + 6 * i + 3;
-        let value = &sheet[at..at + 3];
-        (value[0] as usize, value[1] as usize, value[2] as usize)
-    }
-    fn pair(&self, sheet: &[u8], i: usize) -> (usize, usize) {
-        let at = self.pairs_at + 5 * i + 3;
-        let value = &sheet[at..at + 2];
-        (value[0] as usize, value[1] as usize)
-    }
-}
-
-fn covers(event: &[u8], address: u8) -> bool {
-    event[3] <= address && (address as usize) < event[3] as usize + event[4] as usize
-}
-
-/// An unordered access that may be tear-free: a width of 1, 2 or 4 that divides the start. The width is a power of two.
-fn unbroken(mode: u8, start: usize, width: usize) -> bool {
-    mode == UNORDERED && width < 8 && start & (width - 1) == 0
-}
-
-fn read(sheet: &[u8]) -> Result<Read, (u8, usize)> {
-    if sheet.len() > MAX_SHEET {
-        return Err((1, 0));
-    }
-    if sheet.is_empty() {
-        return Err((3, 0));
-    }
-    let mut r = Read {
-        front: 5,
-        agents: 0,
-        size: 0,
-        inits: 0,
-        events: 0,
-        at: [0; SLOTS],
-        rows_at: 0,
-        rows: 0,
-        pairs_at: 0,
-        pairs: 0,
-    };
-    let mut last_tag = 0;
-    let mut covered = 0u64; // the bytes that inits cover
-    let mut reads = false;
-    let mut present = 1u16; // the agents that have events, and agent 0
-    let mut rows_of = [0u8; SLOTS];
-    let mut at = 0;
-    while at < sheet.len() {
-        let rest = &sheet[at..];
-        if rest.len() < 3 {
-            return Err((2, at));
-        }
-        let tag = rest[0];
-        let allowed = match tag {
-            1 => last_tag == 0,
-            2..=4 => last_tag != 0 && tag >= last_tag,
-            _ => false,
-        };
-        if !allowed {
-            return Err((3, at));
-        }
-        last_tag = tag;
-        let length = (rest[1] as usize) << 8 | rest[2] as usize;
-        if length > rest.len() - 3 {
-            return Err((2, at));
-        }
-        let value = &rest[3..3 + length];
-        match tag {
-            1 => {
-                let &[edition, agents, size] = value else {
-                    return Err((4, at));
-                };
-                if !(1..=2).contains(&edition) || !(1..=8).contains(&agents) || !(1..=64).contains(&size) {
-                    return Err((5, at));
-                }
-                (r.front, r.agents, r.size) = (4 + edition as usize, agents, size);
-            }
-            2 => {
-                let [agent, kind, mode, start, width, ..] = value else {
-                    return Err((4, at));
-                };
-                if value.len() < r.front {
-                    return Err((4, at));
-                }
-                let (kind, mode, start, width) = (*kind, *mode, *start as usize, *width as usize);
-                if start + width > r.size as usize {
-                    return Err((6, at));
-                }
-                let aligned = match width {
-                    1 => true,
-                    2 | 4 | 8 => mode != SC || start & (width - 1) == 0,
-                    _ => false,
-                };
-                let data_needed = match (kind, mode) {
-                    (WRITE, INIT) if *agent == 0 && width > 0 => {
-                        let range = range(start, width);
-                        if r.events != r.inits || covered & range != 0 {
-                            return Err((6, at));
-                        }
-                        covered |= range;
-                        width
-                    }
-                    (READ | WRITE, UNORDERED | SC) if aligned => width,
-                    (RMW, SC) if aligned => 2 * width,
-                    (MARKER, SC) if start == 0 && width == 0 => 0,
-                    _ => return Err((6, at)),
-                };
-                if mode != INIT && !(1..=r.agents).contains(agent) {
-                    return Err((6, at));
-                }
-                if r.front == 6 {
-                    let must = mode == SC && kind != MARKER;
-                    let may = must || unbroken(mode, start, width);
-                    if !(must as u8..=may as u8).contains(&value[5]) {
-                        return Err((6, at));
-                    }
-                }
-                if length != r.front + data_needed {
-                    return Err((4, at));
-                }
-                if mode == INIT {
-                    if r.inits == MAX_INITS {
-                        return Err((9, at));
-                    }
-                    r.inits += 1;
-                } else if r.events - r.inits == MAX_OTHERS {
-                    return Err((9, at));
-                }
-                reads |= kind & 1 != 0;
-                present |= 1 << agent;
-                r.at[r.events] = at as u16 + 3;
-                r.events += 1;
-            }
-            3 => {
-                let &[reader, address, writer] = value else {
-                    return Err((4, at));
-                };
-                let (e, w) = (reader as usize, writer as usize);
-                if e >= r.events || w >= r.events || e == w {
-                    return Err((7, at));
-                }
-                let (read, write) = (r.event(sheet, e), r.event(sheet, w));
-                let fit = read[1] & 1 != 0
-                    && covers(read, address)
-                    && (write[1] == WRITE || write[1] == RMW)
-                    && covers(write, address);
-                if !fit {
-                    return Err((7, at));
-                }
-                if r.rows == 0 {
-                    r.rows_at = at;
-                } else {
-                    let (last, last_address, _) = r.row(sheet, r.rows - 1);
-                    if (e, address as usize) <= (last, last_address) {
-                        return Err((7, at));
-                    }
-                }
-                rows_of[e] += 1;
-                r.rows += 1;
-            }
-            _ => {
-                let &[first, second] = value else {
-                    return Err((4, at));
-                };
-                let (a, b) = (first as usize, second as usize);
-                if a >= r.events || b >= r.events {
-                    return Err((8, at));
-                }
-                let (one, other) = (r.event(sheet, a), r.event(sheet, b));
-                if one[1] != MARKER || other[1] != MARKER || one[0] == other[0] {
-                    return Err((8, at));
-                }
-                if r.pairs == 0 {
-                    r.pairs_at = at;
-                } else if (a, b) <= r.pair(sheet, r.pairs - 1) {
-                    return Err((8, at));
-                }
-                if r.pairs == MAX_PAIRS {
-                    return Err((9, at));
-                }
-                r.pairs += 1;
-            }
-        }
-        at += 3 + length;
-    }
-    if !reads {
-        return Err((10, sheet.len()));
-    }
-    if present != (2 << r.agents) - 1 {
-        return Err((14, sheet.len()));
-    }
-    // rows rise strictly and lie in their reader's range, so as many as its width are one for each byte
-    for e in r.inits..r.events {
-        let event = r.event(sheet, e);
-        if event[1] & 1 != 0 && rows_of[e] != event[4] {
-            return Err((11, r.at[e] as usize - 3));
-        }
-    }
-    Ok(r)
-}
-
-/// The bytes of a range as a mask.
-fn range(start: usize, width: usize) -> u64 {
-    if width == 0 {
-        0
-    } else {
-        (u64::MAX >> (64 - width)) << start
-    }
-}
-
 fn bit(mask: u32, e: usize) -> bool {
-    mask >> e & 1 != 0
+    mask >> (e & 31) & 1 != 0
 }
 
-/// The transitive closure of the first n rows of successors; the rows from n on are empty. A whole row at once, only events
-/// that lead somewhere and are led to, two of them in one pass, eight rows at a time. Of the forms that we tried the fastest
-/// or near it (docs/BENCHMARKS.md, "The closure").
-#[inline]
-#[allow(clippy::needless_range_loop)] // by index, not by an iterator: the compiler makes shorter code of it
-pub fn close(rows: &mut [u32; SLOTS], n: usize) {
-    let through = |x: u32, k: usize, row: u32| if bit(x, k) { row } else { 0 };
-    let (mut into, mut from) = (0u32, 0u32);
-    for e in 0..n {
-        into |= rows[e];
-        from |= u32::from(rows[e] != 0) << e;
-    }
-    // the last `and` changes nothing, but with it the compiler makes code that takes a tenth less time
-    let mut left = into & from & ((1u64 << n) - 1) as u32;
-    while left != 0 {
-        let k = left.trailing_zeros() as usize & 31;
-        left &= left - 1;
-        // where none is left, k twice
-        let j = if left == 0 { k } else { left.trailing_zeros() as usize & 31 };
-        left &= left.wrapping_sub(1);
-        let first = rows[k];
-        let other = rows[j] | through(rows[j], k, first);
-        let row = first | through(first, j, other);
-        for eight in rows.chunks_exact_mut(8).take(n.div_ceil(8)) {
-            for x in eight {
-                *x |= through(*x, k, row) | through(*x, j, other);
-            }
-        }
-    }
-}
-
-/// Tables over events, filled once; every set of events is a mask.
-struct Tables {
-    tear_free: u32,
-    sc: u32,
-    writes: u32,
-    /// Events with an equal range; with a range that shares a byte.
-    equal: [u32; SLOTS],
-    overlap: [u32; SLOTS],
-    /// Happens-before by rows and by columns.
+/// A transitive relation over events, by rows and by columns.
+#[derive(Clone, Copy)]
+struct Relation {
     succ: [u32; SLOTS],
     pred: [u32; SLOTS],
-    /// By byte of memory, the events that write it.
-    writers: [u32; 64],
+    /// Some event comes before itself.
+    cycle: bool,
 }
 
-struct Bars {
-    /// By V, the W of its bars; `bars[v * 32 + w]` is the mask of R.
-    barring: [u32; SLOTS],
-    bars: [u32; SLOTS * SLOTS],
+impl Relation {
+    /// More of it: all up to one of the first come before all from one of the second on. Of these two sets one is a single
+    /// event, and where no cycle comes of it that is the closure.
+    #[inline(always)]
+    fn add(&mut self, up_to: u32, from: u32) {
+        self.cycle |= up_to & from != 0;
+        for (e, row) in self.succ[..ROWS].iter_mut().enumerate() {
+            *row |= if up_to & 1 << e != 0 { from } else { 0 };
+        }
+        for (e, row) in self.pred[..ROWS].iter_mut().enumerate() {
+            *row |= if from & 1 << e != 0 { up_to } else { 0 };
+        }
+    }
+
+    /// The event and all before it; and all behind it.
+    #[inline(always)]
+    fn up_to(&self, e: usize) -> u32 {
+        self.pred[e & 31] | 1 << e
+    }
+    #[inline(always)]
+    fn from(&self, e: usize) -> u32 {
+        self.succ[e & 31] | 1 << e
+    }
+}
+
+/// Happens-before, and what else is asked by event; every set of events is a mask.
+///
+/// Inits happen before every event that overlaps them and those behind, and nothing before them. Where an init is asked for
+/// as a writer W, each event in question shares a byte with it: so its row of successors is full, and no set of
+/// predecessors holds one.
+struct Tables {
+    before: Relation,
+    /// By range of an sc access, the events that write there as sc ones; none at 0. Slots of other ranges hold nothing.
+    writers: [MaybeUninit<u32>; 128],
 }
 
 impl Tables {
-    fn of(sheet: &[u8], r: &Read) -> Tables {
-        let n = r.events;
-        let mut t = Tables {
-            tear_free: 0,
-            sc: 0,
-            writes: 0,
-            equal: [0; SLOTS],
-            overlap: [0; SLOTS],
-            succ: [0; SLOTS],
-            pred: [0; SLOTS],
-            writers: [0; 64],
-        };
-        let mut ranges = [0u64; SLOTS];
-        let mut later = [0u32; 16]; // by agent, its events after this one
-        for e in (0..n).rev() {
-            let event = r.event(sheet, e);
-            let (agent, kind, mode, start, width) =
-                (event[0] as usize & 15, event[1], event[2], event[3] as usize, event[4] as usize);
-            let me = 1u32 << e;
-            ranges[e] = range(start, width);
-            if mode == SC {
-                t.sc |= me;
-            }
-            if r.tear_free(event) {
-                t.tear_free |= me;
-            }
-            if kind == WRITE || kind == RMW {
-                t.writes |= me;
-                for byte in start..start + width {
-                    t.writers[byte & 63] |= me;
-                }
-            }
-            if mode != INIT {
-                t.succ[e] = later[agent];
-                later[agent] |= me;
-            }
+    fn new() -> Tables {
+        Tables {
+            before: Relation { succ: [0; SLOTS], pred: [0; SLOTS], cycle: false },
+            writers: [const { MaybeUninit::uninit() }; 128],
         }
-        for e in 0..n {
-            let mine = ranges[e];
-            let (mut equal, mut overlap) = (0, 0);
-            for (d, &other) in ranges[..n].iter().enumerate() {
-                equal |= u32::from(other == mine) << d;
-                overlap |= u32::from(other & mine != 0) << d;
-            }
-            (t.equal[e], t.overlap[e]) = (equal, overlap);
-            if e < r.inits {
-                t.succ[e] = overlap & !(1 << e);
-            }
-        }
-        for i in 0..r.pairs {
-            let (a, b) = r.pair(sheet, i);
-            t.succ[a & 31] |= 1 << b;
-        }
-        for i in 0..r.rows {
-            let (reader, _, writer) = r.row(sheet, i);
-            if t.synchronised(reader, writer) {
-                t.succ[writer & 31] |= 1 << reader;
-            }
-        }
-        close(&mut t.succ, n);
-        for e in 0..n {
-            let mut left = t.succ[e];
-            while left != 0 {
-                t.pred[left.trailing_zeros() as usize & 31] |= 1 << e;
-                left &= left - 1;
-            }
-        }
-        t
     }
 
-    /// In a row, W synchronises with R.
-    fn synchronised(&self, r: usize, w: usize) -> bool {
-        bit(self.sc & self.equal[r & 31], w) && bit(self.sc, r)
+    #[inline(always)]
+    fn fill(&mut self, sheet: &[u8], r: &Read) {
+        let t = self;
+        t.writers[0].write(0);
+        for e in r.inits..r.events {
+            t.writers[r.event(e).sc as usize & 127].write(0);
+        }
+        for e in r.inits..r.events {
+            let event = r.event(e);
+            let agent = r.of_agent[event.agent as usize & 15];
+            t.before.succ[e & 31] = agent & u32::MAX << e << 1;
+            t.before.pred[e & 31] = agent & ((1 << e) - 1);
+            // SAFETY: written above.
+            let slot = unsafe { t.writers[event.sc as usize & 127].assume_init_mut() };
+            *slot |= u32::from(event.writes != 0 && event.sc != 0) << e;
+        }
+        for run in r.runs() {
+            let (reader, writer) = (run.reader as usize, run.writer as usize);
+            if synchronised(r, run) && !bit(t.before.succ[writer & 31], reader) {
+                t.before.add(t.before.up_to(writer), t.before.from(reader));
+            }
+        }
+        for (first, second) in r.pairs(sheet) {
+            t.before.add(t.before.up_to(first), t.before.from(second));
+        }
+        for e in 0..r.inits {
+            t.before.succ[e & 31] = u32::MAX;
+        }
     }
 
-    /// Rules 21 to 25.
-    fn broken(&self, sheet: &[u8], r: &Read) -> Option<(u8, [u8; 4])> {
-        for i in 0..r.rows {
-            let (reader, address, writer) = r.row(sheet, i);
-            let (read, write) = (r.event(sheet, reader), r.event(sheet, writer));
-            let seen = read[r.front + address - read[3] as usize];
-            let skip = if write[1] == RMW { write[4] as usize } else { 0 };
-            let written = write[r.front + skip + address - write[3] as usize];
-            if seen != written {
-                return Some((21, [reader as u8, writer as u8, 255, address as u8]));
+    /// The sc events that write the whole range of this sc one; none for other events.
+    #[inline(always)]
+    fn equal(&self, r: &Read, e: usize) -> u32 {
+        // SAFETY: `fill` has written the slot of each event's range, and 0.
+        unsafe { self.writers[r.event(e).sc as usize & 127].assume_init() }
+    }
+
+    /// Whether a rule from 22 to 25 is broken.
+    #[inline(always)]
+    fn breaks(&self, r: &Read) -> bool {
+        let mut hit = self.before.cycle as u32;
+        let mut last = u8::MAX;
+        let mut wholes = 0u32; // the tear-free writers with the reader's range
+        for run in r.runs() {
+            let (e, w) = (run.reader as usize & 31, run.writer as usize & 31);
+            hit |= self.before.succ[e] >> w & 1;
+            hit |= run.over & self.before.succ[w] & self.before.pred[e];
+            let (read, write) = (r.event(e), r.event(w));
+            let whole = read.whole == write.whole && read.whole != 0;
+            wholes = if run.reader == last { wholes } else { 0 } | u32::from(whole) << w;
+            last = run.reader;
+            hit |= wholes & wholes.wrapping_sub(1);
+        }
+        hit != 0
+    }
+
+    /// The first rule from 22 to 25 that is broken, and its names.
+    #[cold]
+    fn broken(&self, sheet: &[u8], r: &Read) -> (u8, [u8; 4]) {
+        for e in r.inits..r.events {
+            if bit(self.before.succ[e], e) {
+                return (22, [e as u8, 255, 255, 255]);
             }
         }
-        for e in 0..r.events {
-            if bit(self.succ[e], e) {
-                return Some((22, [e as u8, 255, 255, 255]));
+        for (reader, address, writer) in r.rows(sheet) {
+            if bit(self.before.succ[reader as usize & 31], writer as usize) {
+                return (23, [reader, writer, 255, address]);
             }
         }
-        for i in 0..r.rows {
-            let (reader, address, writer) = r.row(sheet, i);
-            if bit(self.succ[reader & 31], writer) {
-                return Some((23, [reader as u8, writer as u8, 255, address as u8]));
-            }
-        }
-        for i in 0..r.rows {
-            let (reader, address, writer) = r.row(sheet, i);
-            let between = self.writers[address & 63] & self.succ[writer & 31] & self.pred[reader & 31];
+        for (reader, address, writer) in r.rows(sheet) {
+            let over = r.writers[address as usize & 63];
+            let between = over & self.before.succ[writer as usize & 31] & self.before.pred[reader as usize & 31];
             if between != 0 {
-                return Some((24, [reader as u8, writer as u8, between.trailing_zeros() as u8, address as u8]));
+                return (24, [reader, writer, between.trailing_zeros() as u8, address]);
             }
         }
-        let mut i = 0;
-        while i < r.rows {
-            let (reader, _, _) = r.row(sheet, i);
-            let mut from = 0;
-            while i < r.rows && r.row(sheet, i).0 == reader {
-                from |= 1u32 << r.row(sheet, i).2;
-                i += 1;
-            }
-            let whole = from & self.equal[reader & 31] & self.tear_free;
-            if bit(self.tear_free, reader) && whole & whole.wrapping_sub(1) != 0 {
-                let w = whole.trailing_zeros();
-                let v = (whole & (whole - 1)).trailing_zeros();
-                return Some((25, [reader as u8, w as u8, v as u8, 255]));
-            }
+        let mut wholes = [0u32; SLOTS];
+        for run in r.runs() {
+            let (read, write) = (r.event(run.reader as usize), r.event(run.writer as usize));
+            let whole = read.whole == write.whole && read.whole != 0;
+            wholes[run.reader as usize & 31] |= u32::from(whole) << run.writer;
         }
-        None
+        let e = wholes.iter().position(|w| w & w.wrapping_sub(1) != 0).unwrap_or(0);
+        let (w, v) = (wholes[e].trailing_zeros(), (wholes[e] & wholes[e].wrapping_sub(1)).trailing_zeros());
+        (25, [e as u8, w as u8, v as u8, 255])
     }
 
     /// For a row's R and W: the V for which (a), (b) or (c) forbids W, V, R in that order.
-    #[inline]
-    fn barred(&self, reader: usize, writer: usize) -> u32 {
-        let (e, w) = (reader & 31, writer & 31);
-        let mut between = 0;
-        if self.synchronised(e, w) {
-            between |= self.equal[e];
-        }
-        if bit(self.pred[e], w) {
-            if bit(self.sc, w) {
-                between |= self.equal[w] & self.pred[e];
-            }
-            if bit(self.sc, e) {
-                between |= self.equal[e] & self.succ[w];
-            }
-        }
-        between & self.sc & self.writes & !(1 << e) & !(1 << w)
+    #[inline(always)]
+    fn barred(&self, r: &Read, run: &Run) -> u32 {
+        let (e, w) = (run.reader as usize & 31, run.writer as usize & 31);
+        let (as_reader, as_writer) = (self.equal(r, e), self.equal(r, w));
+        let (succ, pred) = (self.before.succ[w], self.before.pred[e]);
+        let a = if synchronised(r, run) { as_reader } else { 0 };
+        let b_or_c = if bit(succ, e) { as_writer & pred | as_reader & succ } else { 0 };
+        (a | b_or_c) & !(1 << e | 1 << w)
     }
 
     /// The lowest unsettled pair.
-    fn unsettled(&self, n: usize) -> Option<(u8, u8)> {
-        for e in 0..n {
-            let mut with = self.overlap[e] & !self.succ[e] & !self.pred[e] & (u32::MAX << e) << 1;
-            if !bit(self.writes, e) {
-                with &= self.writes;
-            }
-            if bit(self.sc, e) {
-                with &= !(self.sc & self.equal[e]);
-            }
-            if with != 0 {
-                return Some((e as u8, with.trailing_zeros() as u8));
+    #[inline(always)]
+    fn unsettled(&self, r: &Read) -> Option<(u8, u8)> {
+        let (mut reads, mut writes) = (0u32, 0u32);
+        for e in r.inits..r.events {
+            reads |= u32::from(r.event(e).reads != 0) << e;
+            writes |= u32::from(r.event(e).writes != 0) << e;
+        }
+        for e in r.inits..r.events {
+            let event = r.event(e);
+            let mine = event.reads | event.writes;
+            let partners = writes | if event.writes != 0 { reads } else { 0 };
+            let mut left = partners & !(self.before.succ[e & 31] | self.before.pred[e & 31]) & u32::MAX << e << 1;
+            while left != 0 {
+                let d = left.trailing_zeros() as usize;
+                let other = r.event(d);
+                if mine & (other.reads | other.writes) != 0 && (event.sc != other.sc || event.sc == 0) {
+                    return Some((e as u8, d as u8));
+                }
+                left &= left - 1;
             }
         }
         None
     }
 }
 
+/// In a run, W synchronises with R.
+#[inline(always)]
+fn synchronised(r: &Read, run: &Run) -> bool {
+    let (read, write) = (r.event(run.reader as usize), r.event(run.writer as usize));
+    read.sc == write.sc && read.sc != 0
+}
+
+/// Bars (R, W, V) of a run, all V.
+#[derive(Clone, Copy)]
+struct Bar {
+    reader: u8,
+    writer: u8,
+    between: u32,
+}
+
+/// What waits for what: an event for all that happen before it, and V for the R of a bar whose W happens before V; by the one
+/// that waits, and by the other. And the other bars, as far as they bar anything.
+struct Bars {
+    needs: [u32; SLOTS],
+    follow: [u32; SLOTS],
+    count: usize,
+    bars: [MaybeUninit<Bar>; MAX_RUNS],
+}
+
 impl Bars {
-    /// `bars[v * 32 + w]`: the R for which (a), (b) or (c) forbids W, V, R in that order.
-    fn of(t: &Tables, sheet: &[u8], r: &Read) -> Bars {
-        let mut all = Bars { barring: [0; SLOTS], bars: [0; SLOTS * SLOTS] };
-        let mut last = (usize::MAX, usize::MAX);
-        for i in 0..r.rows {
-            let (reader, _, writer) = r.row(sheet, i);
-            // further bytes of the same row's two events add nothing
-            if (reader, writer) == last {
+    fn new() -> Bars {
+        Bars { needs: [0; SLOTS], follow: [0; SLOTS], count: 0, bars: [const { MaybeUninit::uninit() }; MAX_RUNS] }
+    }
+
+    #[inline(always)]
+    fn fill(&mut self, t: &Tables, r: &Read) {
+        self.needs = t.before.pred;
+        self.follow = t.before.succ;
+        for run in r.runs() {
+            let (e, w) = (run.reader as usize & 31, run.writer as usize & 31);
+            // a V that happens before W, or that R happens before, is never in question
+            let between = t.barred(r, run) & !(t.before.pred[w] | t.before.succ[e]);
+            if between == 0 {
                 continue;
             }
-            last = (reader, writer);
-            let (e, w) = (reader & 31, writer & 31);
-            let mut between = t.barred(e, w);
-            while between != 0 {
-                let v = between.trailing_zeros() as usize & 31;
-                all.barring[v] |= 1 << w;
-                all.bars[v * SLOTS + w] |= 1 << e;
-                between &= between - 1;
+            let after = between & t.before.succ[w];
+            self.follow[e] |= after;
+            for (v, row) in self.needs[..ROWS].iter_mut().enumerate() {
+                *row |= if after & 1 << v != 0 { 1 << e } else { 0 };
             }
+            self.push(Bar { reader: run.reader, writer: run.writer, between: between & !after });
         }
-        all
     }
 
-    /// Whether V may be placed next: all before it are placed, and no bar has its W placed and its R not.
-    fn ready(&self, t: &Tables, placed: u32, v: usize) -> bool {
-        if t.pred[v & 31] & !placed != 0 {
-            return false;
-        }
-        let mut ws = self.barring[v & 31] & placed;
-        while ws != 0 {
-            let w = ws.trailing_zeros() as usize & 31;
-            if self.bars[(v & 31) * SLOTS + w] & !placed != 0 {
-                return false;
-            }
-            ws &= ws - 1;
-        }
-        true
+    /// A bar more, if it bars anything.
+    #[inline(always)]
+    fn push(&mut self, bar: Bar) {
+        // SAFETY: there are not more than runs.
+        unsafe { self.bars.get_unchecked_mut(self.count) }.write(bar);
+        self.count += usize::from(bar.between != 0);
     }
 
-    /// Depth first, always the lowest event that may be placed and leads to a set not yet entered; inits stand first.
-    fn first_order(&self, t: &Tables, r: &Read, marks: &mut [u8], order: &mut [u8]) -> bool {
-        let (inits, n) = (r.inits, r.events);
-        let all = ((1u64 << n) - 1) as u32;
+    #[inline(always)]
+    fn bars(&self) -> &[Bar] {
+        // SAFETY: so many are written.
+        unsafe { core::slice::from_raw_parts(self.bars.as_ptr().cast(), self.count) }
+    }
+
+    /// All that the bars force: where W comes before V, R does; where V comes before R, it comes before W; and so on. False
+    /// where that has a cycle, so that no order exists. Every order that meets the rules has all of it.
+    #[inline(never)]
+    fn force(&mut self, t: &Tables, r: &Read) -> bool {
+        self.count = 0;
+        for run in r.runs() {
+            let (e, w) = (run.reader as usize & 31, run.writer as usize & 31);
+            let between = t.barred(r, run) & !(t.before.pred[w] | t.before.succ[e]);
+            self.push(Bar { reader: run.reader, writer: run.writer, between });
+        }
+        let mut forced = t.before;
+        loop {
+            let all = core::mem::take(&mut self.count);
+            let mut more = false;
+            for i in 0..all {
+                // SAFETY: so many are written, and none behind this one is written anew.
+                let bar = unsafe { self.bars[i].assume_init() };
+                let (e, w) = (bar.reader as usize & 31, bar.writer as usize & 31);
+                let after = bar.between & forced.succ[w] & !forced.succ[e];
+                if after != 0 {
+                    forced.add(forced.up_to(e), members(after).fold(0, |from, v| from | forced.from(v)));
+                    more = true;
+                }
+                let before = bar.between & forced.pred[e] & !forced.pred[w];
+                if before != 0 {
+                    forced.add(members(before).fold(0, |up_to, v| up_to | forced.up_to(v)), forced.from(w));
+                    more = true;
+                }
+                if forced.cycle {
+                    return false;
+                }
+                self.push(Bar { between: bar.between & !(forced.pred[w] | forced.succ[e]), ..bar });
+            }
+            if !more {
+                self.follow = forced.succ;
+                return true;
+            }
+        }
+    }
+
+    /// The V that are barred where these events are placed: W is and R is not.
+    #[inline(always)]
+    fn barred(&self, placed: u32) -> u32 {
+        let mut barred = 0;
+        for bar in self.bars() {
+            let bars = placed >> bar.writer & !(placed >> bar.reader) & 1;
+            barred |= bar.between & bars.wrapping_neg();
+        }
+        barred
+    }
+
+    /// The first order: by the lowest event that may be placed, again and again. Where that comes to a dead end, what the bars
+    /// force is found out (with few events it takes longer than to go all ways), and then all ways are gone.
+    #[inline(always)]
+    fn first_order(&mut self, t: &Tables, r: &Read, marks: &mut [u8], order: &mut [u8]) -> bool {
         let mut path = [0u8; SLOTS];
-        for (e, slot) in path[..inits].iter_mut().enumerate() {
+        let found = self.lowest(r, &mut path)
+            || (r.events - r.inits <= FEW || self.force(t, r)) && self.search(r, marks, &mut path);
+        if found {
+            order[..r.events].copy_from_slice(&path[..r.events]);
+        }
+        found
+    }
+
+    /// The events that may be placed next: all that they need are, and no bar forbids it.
+    #[inline(always)]
+    fn ready(&self, placed: u32) -> u32 {
+        let mut waiting = placed | self.barred(placed);
+        for (e, follow) in self.follow[..ROWS].iter().enumerate() {
+            waiting |= if placed & 1 << e == 0 { *follow } else { 0 };
+        }
+        !waiting
+    }
+
+    /// Always the lowest event that may be placed, inits first, until all are or none may.
+    #[inline(always)]
+    fn lowest(&self, r: &Read, path: &mut [u8; SLOTS]) -> bool {
+        let mut placed = (1u32 << r.inits) - 1;
+        let all = (1u32 << r.events) - 1;
+        for (e, slot) in path[..r.inits].iter_mut().enumerate() {
             *slot = e as u8;
         }
-        let mut depth = inits;
-        let mut placed = ((1u64 << inits) - 1) as u32;
-        let mut from = inits; // events below it are tried already
-        while placed != all {
-            let mut left = !placed & all & (u64::MAX << from) as u32;
-            let mut next = None;
-            while left != 0 {
+        for slot in &mut path[r.inits..r.events] {
+            // one by one: mostly the first may be placed
+            let mut left = !placed & all & !self.barred(placed);
+            loop {
+                if left == 0 {
+                    return false;
+                }
                 let v = left.trailing_zeros() as usize;
-                left &= left - 1;
-                if !self.ready(t, placed, v) {
-                    continue;
-                }
-                let set = ((placed | 1 << v) >> inits) as usize;
-                if marks[set >> 3] >> (set & 7) & 1 != 0 {
-                    continue;
-                }
-                marks[set >> 3] |= 1 << (set & 7);
-                next = Some(v);
-                break;
-            }
-            match next {
-                Some(v) => {
+                if self.needs[v] & !placed == 0 {
+                    *slot = v as u8;
                     placed |= 1 << v;
-                    path[depth & 31] = v as u8;
-                    depth += 1;
-                    from = inits;
+                    break;
                 }
-                None if depth == inits => return false,
-                None => {
-                    depth -= 1;
-                    let v = path[depth & 31] as usize;
-                    placed &= !(1u32 << v);
-                    from = v + 1;
-                }
+                left &= left - 1;
             }
         }
-        order[..n].copy_from_slice(&path[..n]);
         true
     }
+
+    /// Depth first, always the lowest event that may be placed and does not lead to a set known to be a dead end; inits stand
+    /// first, in the path too. The marks are zero before and after: a set is marked when it is left.
+    #[inline(never)]
+    fn search(&self, r: &Read, marks: &mut [u8], path: &mut [u8; SLOTS]) -> bool {
+        let (inits, n) = (r.inits, r.events);
+        let all = (1u32 << n) - 1;
+        let mut depth = inits;
+        let mut placed = (1u32 << inits) - 1;
+        let mut dead = 0usize;
+        let mut journal = [const { MaybeUninit::<u32>::uninit() }; JOURNAL];
+        let mut left = [0u32; SLOTS]; // by depth, what is to be tried
+        left[depth] = self.ready(placed) & all;
+        let found = loop {
+            if placed == all {
+                break true;
+            }
+            let ready = left[depth & 31];
+            if ready != 0 {
+                let next = ready & ready.wrapping_neg();
+                left[depth & 31] = ready ^ next;
+                let set = ((placed | next) >> inits) as usize;
+                if marks[set >> 3] >> (set & 7) & 1 == 0 {
+                    placed |= next;
+                    path[depth & 31] = next.trailing_zeros() as u8;
+                    depth += 1;
+                    left[depth & 31] = self.ready(placed) & all;
+                }
+                continue;
+            }
+            if depth == inits {
+                break false;
+            }
+            let set = (placed >> inits) as usize;
+            marks[set >> 3] |= 1 << (set & 7);
+            if dead < JOURNAL {
+                journal[dead].write(set as u32 >> 3);
+            }
+            dead += 1;
+            depth -= 1;
+            placed ^= 1 << path[depth & 31];
+        };
+        if dead <= JOURNAL {
+            for place in &journal[..dead] {
+                // SAFETY: so many are written.
+                marks[unsafe { place.assume_init() } as usize] = 0;
+            }
+        } else {
+            marks.fill(0);
+        }
+        found
+    }
 }
+
+/// The events of a set, rising.
+fn members(mut set: u32) -> impl Iterator<Item = usize> {
+    core::iter::from_fn(move || {
+        let e = set.trailing_zeros() as usize;
+        set &= set.wrapping_sub(1);
+        (e < SLOTS).then_some(e)
+    })
+}
+
+/// So many marks are taken back one by one; where there are more, all are cleared.
+const JOURNAL: usize = 256;
+/// With so many events that are not inits all ways are soon gone.
+const FEW: usize = 5;

@@ -1,4 +1,4 @@
-//! Both ordinary judges against the second program, over sheets of both editions: answer and both buffers. And the ordinary
+//! The ordinary judge against the second program, over sheets of both editions: answer and both buffers. And the ordinary
 //! check of a list.
 
 use second::random::{case, list_case, shown, shown_list, shown_most, SHOWN, SHOWN_LISTS, SHOWN_MOST};
@@ -11,14 +11,12 @@ fn random_sheets() {
         let c = case(21, index, [4, 6, 9, MAX_OTHERS][index as usize % 4]);
         let (mut scratch2, mut order2) = (vec![0xa5; c.scratch], vec![0xa5; c.order]);
         let expected = second::judge_into(&c.sheet, &mut scratch2, &mut order2);
-        for judge in [ordinary::judge, ordinary::same::judge] {
-            let (mut scratch, mut order) = (vec![0xa5; c.scratch], vec![0xa5; c.order]);
-            let found = judge(&c.sheet, &mut scratch, &mut order);
-            let told = || format!("{}\n{}{}", c.name, second::text::to_text(&c.sheet), expected.line());
-            assert_eq!(found, expected.word(), "{:x} {}", found, told());
-            assert_eq!(order, order2, "{}", told());
-            assert_eq!(scratch, scratch2, "{}", told());
-        }
+        let (mut scratch, mut order) = (vec![0xa5; c.scratch], vec![0xa5; c.order]);
+        let found = ordinary::judge(&c.sheet, &mut scratch, &mut order);
+        let told = || format!("{}\n{}{}", c.name, second::text::to_text(&c.sheet), expected.line());
+        assert_eq!(found, expected.word(), "{:x} {}", found, told());
+        assert_eq!(order, order2, "{}", told());
+        assert_eq!(scratch, scratch2, "{}", told());
         seen.extend(shown(&c.sheet, &expected));
         seen.extend(shown_most(&c, &expected));
     }

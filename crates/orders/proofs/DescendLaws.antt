@@ -1,18 +1,14 @@
 -- A walk without marks and without a step back. Assumes nothing.
 --     Going                       the way, and that each event on it was the lowest that could be placed
 --     going-start going-on going-end     the start, a step on, and what is known where all are placed
-use Prim.Native.Nat.{ℕ, _+_, _-_, _%_, _<_, _≤_}
+use Prim.Native.Nat.{ℕ, _+_, _-_, _<_, _≤_}
 use mathlib.Core.Path.{_≡_, subst}
-use mathlib.Core.Bool.{true}
-use mathlib.Core.List.{List, []}
+use mathlib.Core.List.{List}
 use native.Mathlib.Omega.{arith}
 use native.Mathlib.Decide.{decLt}
 use lib.ListN.{length, set, take}
-use Rattle.basis.proofs.BoolLaws.{not-both-ways}
-use Rattle.sets.specs.Mask.{slots, Has, insert, full, above}
-use Rattle.marks.specs.Table.{isMarked}
-use Rattle.sets.proofs.MaskLaws.{mem-empty}
-use Rattle.placing.specs.Placing.{NextFree, isSeen}
+use Rattle.sets.specs.Mask.{slots, Has, insert, full}
+use Rattle.placing.specs.Placing.{LowestFree}
 use Rattle.orders.specs.Problem.{Problem}
 use Rattle.orders.specs.First.{FirstOf}
 use Rattle.orders.specs.Step.{With, Below, Ready, Runs, Dead}
@@ -35,18 +31,13 @@ module _ (m k : ℕ) (before bars writers : List ℕ) (inits : k ≤ m) (events 
     pub going-end : s ≡ full m → FirstOf (Runs (tabled m before bars) (Below k)) (take (m - k) path)
     going-end h = way-end inits events (g .way) (g .bests) h
 
-    module _ {e : ℕ} (h : e < m) (n : NextFree (k % slots) m before bars writers [] s k e) where
-      -- no set is marked, so what can be placed and is lower was not passed over
-      never : (d : ℕ) → isSeen (k % slots) [] s d ≡ true → ⊥
-      unfolding isMarked
-      never d q = not-both-ways q (mem-empty (above (insert s d) (k % slots) % 8))
-
+    module _ {e : ℕ} (h : e < m) (n : LowestFree m before bars writers s k e) where
       best : Best (tabled m before bars) (Has s) e
       best = record { ready = free-ready all h (n .free h); lower = λ d l r. lower d l r (decLt d k) }
         where
           lower : (d : ℕ) → d < e → Ready (tabled m before bars) (Has s) d → Dec (d < k) → Dead (tabled m before bars) (With (Has s) d)
           lower d l r (yes q) = absurd (r .fresh (way-full inits events (g .way) d q))
-          lower d l r (no q) = absurd (never d (n .tried d (omega (arith, q)) l (omega arith) (ready-free all r)))
+          lower d l r (no q) = absurd (n .none d (omega (arith, q)) l (omega arith) (ready-free all r))
 
       pub going-on : Going (tabled m before bars) k (set path depth e) (insert s e) (depth + 1)
       going-on =

@@ -6,7 +6,7 @@
 use gather::PAIRS;
 use sets::SLOTS;
 ghost use mathlib.Core.Path.{_≡_};
-ghost use mathlib.Core.List.{[], _++_};
+ghost use mathlib.Core.List.{_++_};
 ghost use Prim.Native.Nat.{_+_, _-_, _<_, _≤_};
 ghost use lib.ListN.{length, getD, take, drop, replicate};
 ghost use Rattle.basis.specs.Test.{from};
@@ -57,24 +57,23 @@ fn walk(
     true
 }
 
-// The same without marks and without a step back: always to the lowest event that can be placed, until all are or none can. The table is empty.
+// The same without marks and without a step back: always to the lowest event that can be placed, until all are or none can.
 fn descend(
     k: usize,
     m: usize,
     before: &[u32; SLOTS],
     bars: &[u32; PAIRS],
     writers: &[u32; SLOTS],
-    table: &[u8],
     path: &mut [u8],
 ) -> bool
-    requires { ⌜ (k ≤ m) × (m ≤ slots) × (slots ≤ length (now path)) × (now table ≡ []) × Gathered m (now bars) (now writers) ⌝ }
+    requires { ⌜ (k ≤ m) × (m ≤ slots) × (slots ≤ length (now path)) × Gathered m (now bars) (now writers) ⌝ }
     ensures { λ r. ⌜ Descended (tabled m (now (before .entry)) (now (bars .entry))) k r (now (path .exit)) ⌝ }
 {
     let all = sets::full(m);
     let mut s = sets::full(k);
     let mut depth: usize = 0;
     while s != all {
-        let e = placing::next(k, m, before, bars, writers, table, s, k);
+        let e = placing::lowest(m, before, bars, writers, s, k);
         if m <= e {
             return false;
         }
@@ -287,7 +286,7 @@ fn search(
     gather::gather(m, bars, &mut writers);
     let need = marks::needed(m - k);
     marks::clear(scratch, need); // whatever it held
-    if descend(k, m, before, bars, &writers, &scratch[..0], path) {
+    if descend(k, m, before, bars, &writers, path) {
         return true;
     }
     let mut f = [0u32; SLOTS];

@@ -34,7 +34,7 @@ use Rattle.entries.proofs.EntriesLaws.{spaced-more}
 use Rattle.faults.specs.Faults.{view, Counted, faultIn}
 use Rattle.faults.proofs.FaultsLaws.{others-count, inits-fit, fault-in}
 use Rattle.sheet.specs.Handed.{blankCounts, blankPlaces}
-use Rattle.sheet.specs.steps.Between.{Between, Ready, Advanced, Turn, withHead, withEvent, withRow, withPair, Through}
+use Rattle.sheet.specs.steps.Between.{Between, Ready, Advanced, Reached, at-first, one-more, Turn, withHead, withEvent, withRow, withPair, Through}
 use Rattle.sheet.proofs.TakenLaws.{value-event, value-row, value-pair}
 
 -- ---- lists, one thing more
@@ -306,7 +306,7 @@ between-start s =
 pub turn-start : (s : List ℕ) → length s ≤ maxBytes → Turn s 0 0 blankCounts blankPlaces
 unfolding eventsOn rowsOn pairsOn spaced
 turn-start s h =
-    record { fuel = length s; goes = at-start s h; enough = omega arith; within-s = omega arith; short = h; between = between-start s }
+    record { fuel = length s; goes = at-start s h; enough = omega arith; within-s = omega arith; short = h; between = between-start s; reached = at-first }
 
 module _ (s : List ℕ) (p last : ℕ) (x : Counts) (at : List ℕ) (t : Turn s p last x at) where
   pub turn-through : length s ≤ p → Through s last x at
@@ -317,6 +317,7 @@ module _ (s : List ℕ) (p last : ℕ) (x : Counts) (at : List ℕ) (t : Turn s 
         goes = t .goes ∙ at-end s (t .fuel) p (view s last x at) h;
         between = subst (λ (q : ℕ). Between s q last x at) e (t .between);
         short = t .short;
+        reached = subst (λ (q : ℕ). Reached s q (view s last x at)) e (t .reached);
       }
 
   -- the counts are right, so the fault that they tell is parse's
@@ -344,4 +345,5 @@ module _ (s : List ℕ) (p last : ℕ) (x : Counts) (at : List ℕ) (t : Turn s 
         within-s = inside s p (view s last x at) f;
         short = t .short;
         between = a .between;
+        reached = subst (Reached s (nextAt s p)) (sym (a .seen)) (one-more (t .reached) f);
       }

@@ -2,4 +2,5 @@ pub mod TakenLaws
 pub mod BetweenLaws
 pub mod CompleteLaws
 pub mod AgreementLaws
+pub mod TallyLaws
 pub mod PlainLaws

@@ -1,6 +1,6 @@
 -- Fields that pass every test, taken one after the other. Assumes nothing.
 --     head-reach, head-next                             the head
---     plain-reach, plain-few, plain-here, plain-next    an event
+--     plain-reach, plain-few, plain-here, plain-next    an event; the tally with it: plain-tally
 --     row-reach, row-room, row-next                     a row
 --     place-below, place-there                          an event's place, below that of the field at p; it is among the places
 --     rises-first, rises-then                           a row above the one before
@@ -31,11 +31,13 @@ use Rattle.parse.specs.Parse.{allowed, rowFault, valueFaultBy, faultBy}
 use Rattle.parse.proofs.ParseLaws as parse-laws
 use Rattle.parse.proofs.FormedLaws.{passed, passed-non}
 use Rattle.entries.specs.declared.Counts.{Counts}
-use Rattle.entries.specs.Entries.{eventsIn, rowsIn}
+use Rattle.entries.specs.Entries.{eventAt, eventsIn, rowsIn}
 use Rattle.entries.proofs.EntriesLaws.{readsAt-at, writesAt-at, rows-count, row-at}
 use Rattle.faults.specs.Faults.{PlainHead, PlainEvent}
+use Rattle.sheet.specs.declared.Tally.{Tally}
 use Rattle.sheet.specs.Handed.{blankCounts, blankPlaces}
-use Rattle.sheet.specs.steps.Between.{Between, Ready, Turn, PlainRow, withHead, withEvent, withRow}
+use Rattle.sheet.specs.steps.Between.{Between, Ready, Turn, tallyWith, Tallied, PlainRow, withHead, withEvent, withRow}
+use Rattle.sheet.proofs.TallyLaws.{tally-next}
 use Rattle.sheet.proofs.BetweenLaws.{ready-next, head-taken, event-few, event-here, event-taken, row-few, row-taken, turn-start, turn-ready, turn-reach, turn-next}
 
 -- ---- the head
@@ -91,6 +93,12 @@ module _ (s : List ℕ) (p last : ℕ) (x : Counts) (at : List ℕ) (t : Turn s 
       subst (λ (y : Counts). Turn s (nextAt s p) 2 y (set at (x .events) p)) (same-counts x (agentOf (valueAt s p)) agent (nextAt s p) (e .agent ∙ sym g))
       (subst (λ (tag : ℕ). Turn s (nextAt s p) tag (withEvent x (agentOf (valueAt s p)) (nextAt s p)) (set at (x .events) p)) (e .tag)
       (turn-next s p last x at t _ _ _ h refl (e .clean last w) (event-taken s p last x at ready (e .tag))))
+
+  pub plain-tally : (k u : Tally) → Tallied (eventsIn s x at) k → u ≡ tallyWith k (eventAt s 2 p) → u .bytes ≤ k .bytes + 255
+      → Tallied (eventsIn s (withEvent x (agentOf (valueAt s p)) (nextAt s p)) (set at (x .events) p)) u
+  plain-tally k u h g l =
+      tally-next s p last x at ready _ _ (event-taken s p last x at ready (e .tag)) k h u
+      (g ∙ ap (λ (n : ℕ). cond (eqb n 2) (tallyWith k (eventAt s 2 p)) k) (sym (e .tag))) l
 
 -- ---- a row
 

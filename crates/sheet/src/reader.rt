@@ -3,6 +3,7 @@ use crate::Outcome;
 use crate::Reading;
 use crate::Scan;
 use crate::Spot;
+use crate::Tally;
 use entries::Counts;
 use format::Head;
 use format::MAX_BYTES;
@@ -13,19 +14,24 @@ use format::field::FIELD_BYTES;
 use lacking::Lack;
 use sets::SLOTS;
 ghost use mathlib.Core.Path.{_≡_};
-ghost use mathlib.Core.Bool.{true};
+ghost use mathlib.Core.Bool.{true, cond};
 ghost use Prim.Native.Nat.{_+_, _*_, _≤_, _<_};
+ghost use lib.Dec.{eqb, ltb};
 ghost use lib.ListN.{length, replicate};
-ghost use Rattle.sets.specs.Mask.{slots};
+ghost use Rattle.basis.specs.Test.{any};
+ghost use Rattle.sets.specs.Mask.{slots, insert};
 ghost use Rattle.format.specs.Limits.{maxBytes};
-ghost use Rattle.format.specs.Field.{nextAt, restAt};
+ghost use Rattle.format.specs.Shape.{reads};
+ghost use Rattle.format.specs.Event.{readsSome};
+ghost use Rattle.format.specs.Field.{tagAt, nextAt, restAt};
 ghost use Rattle.format.specs.Layout.{shapeOf, rowGap};
 ghost use Rattle.content.specs.Content.{rowRises};
-ghost use Rattle.parse.specs.Parse.{finish};
-ghost use Rattle.entries.specs.Entries.{rowsIn, execution};
+ghost use Rattle.parse.specs.Parse.{missing, lowestLacking, finish};
+ghost use Rattle.entries.specs.Entries.{eventAt, eventsIn, rowsIn, execution};
+ghost use Rattle.lacking.specs.Lacking.{lackOf};
 ghost use Rattle.sheet.specs.Handed.{blankCounts, blankPlaces, Handed};
 ghost use Rattle.faults.specs.Faults.{view};
-ghost use Rattle.sheet.specs.steps.Between.{Ready, Advanced, Turn, Stands, PlainRow, withHead, withEvent, withRow, withPair, Through, Scanned, parsedOf, refusal};
+ghost use Rattle.sheet.specs.steps.Between.{Ready, Advanced, Turn, Tallied, tallyWith, Stands, PlainRow, withHead, withEvent, withRow, withPair, Through, Scanned, parsedOf, refusal};
 
 // ---- the counts behind a field
 
@@ -150,6 +156,48 @@ fn blank() -> Counts
     }
 }
 
+// ---- the tally, with one event more
+
+// Without a jump: whether an event reads is hard to foresee.
+fn read_width(a: Shape) -> u16
+    ensures { λ r. ⌜ (r ≡ cond (reads a) (a .width) 0) × (r ≤ 255) ⌝ }
+{
+    access::reads(a) as u16 * a.width as u16
+}
+
+fn noted(agents: u32, agent: u8) -> u32
+    ensures { λ r. ⌜ r ≡ cond (ltb agent slots) (insert agents agent) agents ⌝ }
+{
+    if (agent as usize) < SLOTS {
+        return sets::with(agents, agent as usize);
+    }
+    agents
+}
+
+// The event at p; what is asked of it stands alike in every edition.
+fn tallied(s: &[u8], p: u16, t: Tally) -> Tally
+    requires { ⌜ t .bytes < maxBytes * 2 ⌝ }
+    ensures { λ r. ⌜ (r ≡ tallyWith t (eventAt (now (s .entry)) 2 p)) × (r .bytes ≤ t .bytes + 255) ⌝ }
+{
+    let a = entries::shape_at(s, 2, p);
+    Tally {
+        bytes: t.bytes + read_width(a),
+        agents: noted(t.agents, entries::agent_at(s, p)),
+    }
+}
+
+// The field at p, by its tag.
+fn tally_after(s: &[u8], p: u16, t: Tally) -> Tally
+    requires { ⌜ t .bytes < maxBytes * 2 ⌝ }
+    ensures { λ r. ⌜ (r ≡ cond (eqb (tagAt (now (s .entry)) p) 2) (tallyWith t (eventAt (now (s .entry)) 2 p)) t) × (r .bytes ≤ t .bytes + 255) ⌝ }
+{
+    let tag = field::byte(s, p as usize);
+    match tag {
+        2 => tallied(s, p, t),
+        _ => t,
+    }
+}
+
 // ---- most fields: a head, inits, other events, rows, as long as each is without a fault; the next is left to the loop over all fields
 
 fn begin(s: &[u8]) -> Spot
@@ -162,6 +210,10 @@ fn begin(s: &[u8]) -> Spot
             p: 0,
             last: 0,
             x: blank(),
+            t: Tally {
+                bytes: 0,
+                agents: 0,
+            },
         };
     }
     let next = next_at(s, 0);
@@ -170,6 +222,10 @@ fn begin(s: &[u8]) -> Spot
         p: next,
         last: 1,
         x: with_head(layout::head_of(field::byte(v, 0), v), next),
+        t: Tally {
+            bytes: 0,
+            agents: 0,
+        },
     }
 }
 
@@ -178,6 +234,7 @@ fn inits(s: &[u8], q: Spot, at: &mut [u16]) -> Spot
     ensures { λ r. ⌜ Stands (now (s .entry)) r (now (at .exit)) ⌝ }
 {
     let mut x = q.x;
+    let mut t = q.t;
     let mut last = q.last;
     let mut p = q.p;
     if last != 1 {
@@ -190,11 +247,13 @@ fn inits(s: &[u8], q: Spot, at: &mut [u16]) -> Spot
                 p: p,
                 last: last,
                 x: x,
+                t: t,
             };
         }
         let next = next_at(s, p);
         let i = x.events as usize;
         at[i] = p;
+        t = tallied(s, p, t);
         x = with_event(x, 0, next);
         last = 2;
         p = next;
@@ -203,6 +262,7 @@ fn inits(s: &[u8], q: Spot, at: &mut [u16]) -> Spot
         p: p,
         last: last,
         x: x,
+        t: t,
     }
 }
 
@@ -211,6 +271,7 @@ fn events(s: &[u8], q: Spot, at: &mut [u16]) -> Spot
     ensures { λ r. ⌜ Stands (now (s .entry)) r (now (at .exit)) ⌝ }
 {
     let mut x = q.x;
+    let mut t = q.t;
     let mut last = q.last;
     let mut p = q.p;
     let here = content::within(1, 2, last);
@@ -224,11 +285,13 @@ fn events(s: &[u8], q: Spot, at: &mut [u16]) -> Spot
                 p: p,
                 last: last,
                 x: x,
+                t: t,
             };
         }
         let next = next_at(s, p);
         let i = x.events as usize;
         at[i] = p;
+        t = tallied(s, p, t);
         x = with_event(x, 1, next);
         last = 2;
         p = next;
@@ -237,6 +300,7 @@ fn events(s: &[u8], q: Spot, at: &mut [u16]) -> Spot
         p: p,
         last: last,
         x: x,
+        t: t,
     }
 }
 
@@ -296,6 +360,7 @@ fn rows(s: &[u8], q: Spot, at: &[u16]) -> Spot
     ensures { λ r. ⌜ Stands (now (s .entry)) r (now (at .entry)) ⌝ }
 {
     let mut x = q.x;
+    let t = q.t;
     let mut last = q.last;
     let mut p = q.p;
     if last != 2 {
@@ -308,6 +373,7 @@ fn rows(s: &[u8], q: Spot, at: &[u16]) -> Spot
                 p: p,
                 last: last,
                 x: x,
+                t: t,
             };
         }
         let next = next_at(s, p);
@@ -319,6 +385,7 @@ fn rows(s: &[u8], q: Spot, at: &[u16]) -> Spot
         p: p,
         last: last,
         x: x,
+        t: t,
     }
 }
 
@@ -329,6 +396,7 @@ fn fields(s: &[u8], at: &mut [u16]) -> Scan
 {
     let q = rows(s, events(s, inits(s, begin(s), at), at), at);
     let mut x = q.x;
+    let mut t = q.t;
     let mut last = q.last;
     let mut p = q.p;
     while (p as usize) < s.len() {
@@ -337,33 +405,69 @@ fn fields(s: &[u8], at: &mut [u16]) -> Scan
             return Scan::Stopped(n, faults::place_of(n, p));
         }
         let next = next_at(s, p);
+        t = tally_after(s, p, t);
         x = after(s, p, last, x, at);
         last = field::byte(s, p as usize);
         p = next;
     }
-    Scan::Ended(last, x)
+    Scan::Ended(last, x, t)
 }
 
 // ---- after all fields
 
-fn finish(s: &[u8], last: u8, x: Counts, at: &[u16]) -> Reading
-    requires { ⌜ Through (now s) last x (now at) ⌝ }
+// Does some event read? Where a byte is read, yes.
+fn some_read(s: &[u8], x: Counts, at: &[u16], t: Tally) -> bool
+    requires { ⌜ Tallied (eventsIn (now s) x (now at)) t ⌝ }
+    ensures { λ r. ⌜ r ≡ any readsSome (eventsIn (now (s .entry)) x (now (at .entry))) ⌝ }
+{
+    if t.bytes != 0 {
+        return true;
+    }
+    lacking::some_read(s, x, at)
+}
+
+// Does the head promise an agent that has no event?
+fn missing(s: &[u8], x: Counts, at: &[u16], t: Tally) -> bool
+    requires { ⌜ Tallied (eventsIn (now s) x (now at)) t ⌝ }
+    ensures { λ r. ⌜ r ≡ missing (execution (now (s .entry)) x (now (at .entry))) ⌝ }
+{
+    let n = x.head.agents as usize;
+    if n + 1 < SLOTS {
+        let promised = sets::without(sets::full(n + 1), 0);
+        return !sets::subset(promised, t.agents);
+    }
+    agents::missing(s, x, at)
+}
+
+// The lowest event that has a read byte without a row; none where there are as many rows as read bytes.
+fn lack(s: &[u8], last: u8, x: Counts, at: &[u16], t: Tally) -> Lack
+    requires { ⌜ Through (now s) last x (now at) × Tallied (eventsIn (now s) x (now at)) t ⌝ }
+    ensures { λ r. ⌜ lackOf r ≡ lowestLacking (execution (now (s .entry)) x (now (at .entry))) ⌝ }
+{
+    if t.bytes == x.rows {
+        return Lack::Nothing;
+    }
+    lacking::lowest_lacking(s, x, at)
+}
+
+fn finish(s: &[u8], last: u8, x: Counts, at: &[u16], t: Tally) -> Reading
+    requires { ⌜ Through (now s) last x (now at) × Tallied (eventsIn (now s) x (now at)) t ⌝ }
     ensures { λ r. ⌜ parsedOf r (execution (now (s .entry)) x (now (at .entry))) ≡ finish (now (s .entry)) (view (now (s .entry)) last x (now (at .entry))) ⌝ }
 {
     let none = last == 0;
     if none {
         return Reading::Refused(3, 0);
     }
-    let some = lacking::some_read(s, x, at);
+    let some = some_read(s, x, at, t);
     if !some {
         return Reading::Refused(10, s.len() as u32);
     }
-    let lost = agents::missing(s, x, at);
+    let lost = missing(s, x, at, t);
     if lost {
         return Reading::Refused(14, s.len() as u32);
     }
-    let lack = lacking::lowest_lacking(s, x, at);
-    match lack {
+    let lacks = lack(s, last, x, at, t);
+    match lacks {
         Lack::Nothing => Reading::Whole,
         Lack::Event(e) => Reading::Refused(11, faults::place_of(11, entries::place_of(at, e))),
     }
@@ -391,8 +495,8 @@ pub fn read(s: &[u8]) -> Outcome
     let scan = fields(s, &mut at);
     match scan {
         Scan::Stopped(n, p) => refuse(n, p),
-        Scan::Ended(last, x) => {
-            let reading = finish(s, last, x, &at);
+        Scan::Ended(last, x, t) => {
+            let reading = finish(s, last, x, &at, t);
             match reading {
                 Reading::Refused(n, p) => refuse(n, p),
                 Reading::Whole => Outcome {

@@ -2,6 +2,8 @@
 use denote.Ref.{now}
 use borrow.Author.Tests.{not-false}
 use Rattle.sheet.proofs.BetweenLaws.{turn-start}
+use Rattle.sheet.specs.Handed.{blankPlaces}
+use Rattle.sheet.proofs.TallyLaws.{tallied-start}
 use Rattle.sheet.proofs.PlainLaws.{head-reach, head-next}
 use borrow.Author.Needs.{needs}
 use Rattle.sheet.proofs.reader.begin.Statement.{statement}
@@ -14,7 +16,7 @@ blank-requires : tie.Need-blank-requires
 blank-requires c κs = search needs
 
 returns : tie.Need-returns
-returns c = rw (c .blank .ensures) (turn-start (now (c .before .before .before .before .args .s)) (c .before .before .before .before .pre))
+returns c = rw (c .blank .ensures) (record { turn = turn-start (now (c .before .before .before .before .args .s)) (c .before .before .before .before .pre); tallied = tallied-start (now (c .before .before .before .before .args .s)) 0 blankPlaces })
 
 next-at-requires : tie.Need-next-at-requires
 next-at-requires c κs = head-reach (now (c .before .before .before .args .s)) (c .before .before .before .pre) (c .before .plain-head .ensures (not-false _ (c .if1 .left)))
@@ -32,7 +34,9 @@ with-head-requires : tie.Need-with-head-requires
 with-head-requires c κs = search needs
 
 returns-2 : tie.Need-returns-2
-returns-2 c = simp (c .with-head .ensures, c .before .head-of .ensures, c .before .before .byte .ensures, c .before .before .before .value-at .ensures, c .before .before .before .before .next-at .ensures) (head-next (now (c .before .before .before .before .before .before .before .before .args .s)) (c .before .before .before .before .before .before .before .before .pre) (c .before .before .before .before .before .before .plain-head .ensures (not-false _ (c .before .before .before .before .before .if1 .left))))
+returns-2 c =
+    simp (c .with-head .ensures, c .before .head-of .ensures, c .before .before .byte .ensures, c .before .before .before .value-at .ensures, c .before .before .before .before .next-at .ensures)
+    (record { turn = head-next (now (c .before .before .before .before .before .before .before .before .args .s)) (c .before .before .before .before .before .before .before .before .pre) (c .before .before .before .before .before .before .plain-head .ensures (not-false _ (c .before .before .before .before .before .if1 .left))); tallied = tallied-start (now (c .before .before .before .before .before .before .before .before .args .s)) _ blankPlaces })
 
 pub begin-spec : {M : Type 1} → statement M
 begin-spec =

@@ -5,17 +5,19 @@ use Prim.Native.Nat.{_-_}
 use denote.Ref.{now}
 use native.Mathlib.Omega.{arith}
 use lib.ListN.{length}
-use Rattle.sheet.specs.steps.Between.{Turn}
+use Rattle.entries.specs.Entries.{eventsIn}
+use Rattle.sheet.specs.steps.Between.{Turn, Tallied}
+use Rattle.sheet.proofs.TallyLaws.{tally-room, tally-next}
 use Rattle.sheet.proofs.BetweenLaws.{turn-through, turn-fault, turn-ready, turn-reach, turn-next}
 use borrow.Author.Needs.{needs}
 use Rattle.sheet.proofs.reader.fields.Statement.{statement}
 use Rattle.sheet.proofs.reader.fields.Tie as tie
 
 abbrev Inv-loop : tie.InvT-loop
-Inv-loop s at₀ x₀ last₀ p₀ at x last p = Turn s p last x at
+Inv-loop s at₀ x₀ t₀ last₀ p₀ at x t last p = Turn s p last x at × Tallied (eventsIn s x at) t
 
 abbrev μ-loop : tie.MeasureT-loop
-μ-loop s at₀ x₀ last₀ p₀ at x last p = length s - p
+μ-loop s at₀ x₀ t₀ last₀ p₀ at x t last p = length s - p
 
 begin-requires : tie.Need-begin-requires Inv-loop μ-loop
 begin-requires c κs = c .before .before .pre .0
@@ -30,7 +32,7 @@ rows-requires : tie.Need-rows-requires Inv-loop μ-loop
 rows-requires c κs = c .before .before .before .events .ensures
 
 loop-holds : tie.Need-loop-holds Inv-loop μ-loop
-loop-holds c = c .before .rows .ensures
+loop-holds c = (c .before .before .rows .ensures .turn, c .before .before .rows .ensures .tallied)
 
 cast-loop : tie.Need-cast-loop Inv-loop μ-loop
 cast-loop c = omega arith
@@ -42,16 +44,19 @@ place-of-requires : tie.Need-place-of-requires Inv-loop μ-loop
 place-of-requires c κs = search needs
 
 same-length : tie.Need-same-length Inv-loop μ-loop
-same-length c = c .before .before .before .before .before .loop .inv .between .size ∙ sym (ap length (c .before .before .before .before .before .before .before .before .before .before .before .before .before .before .before .before .before .before .before .before .pre .1))
+same-length c = c .before .before .before .before .before .loop .inv .0 .between .size ∙ sym (ap length (c .before .before .before .before .before .before .before .before .before .before .before .before .before .before .before .before .before .before .before .before .before .pre .1))
 
 returns : tie.Need-returns Inv-loop μ-loop
-returns c = rw (c .place-of .ensures) (turn-fault (now (c .before .before .before .before .before .before .before .before .before .before .before .before .before .before .before .before .before .before .before .before .args .s)) (c .before .before .before .before .before .loop .p) (c .before .before .before .before .before .loop .last) (c .before .before .before .before .before .loop .x) (c .before .before .before .before .before .loop .at) (c .before .before .before .before .before .loop .inv) _ (c .before .before .before .before .loop-test .taken) (c .before .before .fault-at .ensures) (c .before .if1 .taken))
+returns c = rw (c .place-of .ensures) (turn-fault (now (c .before .before .before .before .before .before .before .before .before .before .before .before .before .before .before .before .before .before .before .before .before .args .s)) (c .before .before .before .before .before .loop .p) (c .before .before .before .before .before .loop .last) (c .before .before .before .before .before .loop .x) (c .before .before .before .before .before .loop .at) (c .before .before .before .before .before .loop .inv .0) _ (c .before .before .before .before .loop-test .taken) (c .before .before .fault-at .ensures) (c .before .if1 .taken))
 
 next-at-requires : tie.Need-next-at-requires Inv-loop μ-loop
-next-at-requires c κs = turn-reach (now (c .before .before .before .before .before .before .before .before .before .before .before .before .before .before .before .before .before .before .before .args .s)) (c .before .before .before .before .loop .p) (c .before .before .before .before .loop .last) (c .before .before .before .before .loop .x) (c .before .before .before .before .loop .at) (c .before .before .before .before .loop .inv) _ (c .before .fault-at .ensures) (c .if1 .left)
+next-at-requires c κs = turn-reach (now (c .before .before .before .before .before .before .before .before .before .before .before .before .before .before .before .before .before .before .before .before .args .s)) (c .before .before .before .before .loop .p) (c .before .before .before .before .loop .last) (c .before .before .before .before .loop .x) (c .before .before .before .before .loop .at) (c .before .before .before .before .loop .inv .0) _ (c .before .fault-at .ensures) (c .if1 .left)
+
+tally-after-requires : tie.Need-tally-after-requires Inv-loop μ-loop
+tally-after-requires c κs = tally-room (now (c .before .before .before .before .before .before .before .before .before .before .before .before .before .before .before .before .before .before .before .before .before .args .s)) (c .before .before .before .before .before .loop .p) (c .before .before .before .before .before .loop .last) (c .before .before .before .before .before .loop .x) (c .before .before .before .before .before .loop .at) (c .before .before .before .before .before .loop .inv .0 .between) (c .before .before .before .before .before .loop .t) (c .before .before .before .before .before .loop .inv .1)
 
 after-requires : tie.Need-after-requires Inv-loop μ-loop
-after-requires c κs = turn-ready (now (c .before .before .before .before .before .before .before .before .before .before .before .before .before .before .before .before .before .before .before .before .before .args .s)) (c .before .before .before .before .before .before .loop .p) (c .before .before .before .before .before .before .loop .last) (c .before .before .before .before .before .before .loop .x) (c .before .before .before .before .before .before .loop .at) (c .before .before .before .before .before .before .loop .inv) _ (c .before .before .before .fault-at .ensures) (c .before .before .if1 .left)
+after-requires c κs = turn-ready (now (c .before .before .before .before .before .before .before .before .before .before .before .before .before .before .before .before .before .before .before .before .before .before .before .args .s)) (c .before .before .before .before .before .before .before .loop .p) (c .before .before .before .before .before .before .before .loop .last) (c .before .before .before .before .before .before .before .loop .x) (c .before .before .before .before .before .before .before .loop .at) (c .before .before .before .before .before .before .before .loop .inv .0) _ (c .before .before .before .before .fault-at .ensures) (c .before .before .before .if1 .left)
 
 cast-byte : tie.Need-cast-byte Inv-loop μ-loop
 cast-byte c = search needs
@@ -63,13 +68,16 @@ loop-less : tie.Need-loop-less Inv-loop μ-loop
 loop-less c = search needs
 
 loop-again : tie.Need-loop-again Inv-loop μ-loop
-loop-again c = rw (c .byte .ensures, c .before .before .before .before .before .next-at .ensures) (turn-next (now (c .before .before .before .before .before .before .before .before .before .before .before .before .before .before .before .before .before .before .before .before .before .before .before .before .before .args .s)) (c .before .before .before .before .before .before .before .before .before .before .loop .p) (c .before .before .before .before .before .before .before .before .before .before .loop .last) (c .before .before .before .before .before .before .before .before .before .before .loop .x) (c .before .before .before .before .before .before .before .before .before .before .loop .at) (c .before .before .before .before .before .before .before .before .before .before .loop .inv) (c .before .before .before .after .result) _ _ (c .before .before .before .before .before .before .before .before .before .loop-test .taken) (c .before .before .before .before .before .before .before .fault-at .ensures) (c .before .before .before .before .before .before .if1 .left) (c .before .before .before .after .ensures))
+loop-again c = (
+  rw (c .byte .ensures, c .before .before .before .before .before .before .next-at .ensures) (turn-next (now (c .before .before .before .before .before .before .before .before .before .before .before .before .before .before .before .before .before .before .before .before .before .before .before .before .before .before .before .args .s)) (c .before .before .before .before .before .before .before .before .before .before .before .loop .p) (c .before .before .before .before .before .before .before .before .before .before .before .loop .last) (c .before .before .before .before .before .before .before .before .before .before .before .loop .x) (c .before .before .before .before .before .before .before .before .before .before .before .loop .at) (c .before .before .before .before .before .before .before .before .before .before .before .loop .inv .0) (c .before .before .before .after .result) _ _ (c .before .before .before .before .before .before .before .before .before .before .loop-test .taken) (c .before .before .before .before .before .before .before .before .fault-at .ensures) (c .before .before .before .before .before .before .before .if1 .left) (c .before .before .before .after .ensures)),
+  tally-next (now (c .before .before .before .before .before .before .before .before .before .before .before .before .before .before .before .before .before .before .before .before .before .before .before .before .before .before .before .args .s)) (c .before .before .before .before .before .before .before .before .before .before .before .loop .p) (c .before .before .before .before .before .before .before .before .before .before .before .loop .last) (c .before .before .before .before .before .before .before .before .before .before .before .loop .x) (c .before .before .before .before .before .before .before .before .before .before .before .loop .at) (turn-ready (now (c .before .before .before .before .before .before .before .before .before .before .before .before .before .before .before .before .before .before .before .before .before .before .before .before .before .before .before .args .s)) (c .before .before .before .before .before .before .before .before .before .before .before .loop .p) (c .before .before .before .before .before .before .before .before .before .before .before .loop .last) (c .before .before .before .before .before .before .before .before .before .before .before .loop .x) (c .before .before .before .before .before .before .before .before .before .before .before .loop .at) (c .before .before .before .before .before .before .before .before .before .before .before .loop .inv .0) _ (c .before .before .before .before .before .before .before .before .fault-at .ensures) (c .before .before .before .before .before .before .before .if1 .left)) (c .before .before .before .after .result) _ (c .before .before .before .after .ensures) (c .before .before .before .before .before .before .before .before .before .before .before .loop .t) (c .before .before .before .before .before .before .before .before .before .before .before .loop .inv .1) (c .before .before .before .before .before .tally-after .result) (c .before .before .before .before .before .tally-after .ensures .0) (c .before .before .before .before .before .tally-after .ensures .1),
+)
 
 same-length-2 : tie.Need-same-length-2 Inv-loop μ-loop
-same-length-2 c = c .before .loop .inv .between .size ∙ sym (ap length (c .before .before .before .before .before .before .before .before .before .before .before .before .before .before .before .before .pre .1))
+same-length-2 c = c .before .loop .inv .0 .between .size ∙ sym (ap length (c .before .before .before .before .before .before .before .before .before .before .before .before .before .before .before .before .before .pre .1))
 
 returns-2 : tie.Need-returns-2 Inv-loop μ-loop
-returns-2 c = turn-through (now (c .before .before .before .before .before .before .before .before .before .before .before .before .before .before .before .before .args .s)) (c .before .loop .p) (c .before .loop .last) (c .before .loop .x) (c .before .loop .at) (c .before .loop .inv) (c .loop-test .left)
+returns-2 c = (turn-through (now (c .before .before .before .before .before .before .before .before .before .before .before .before .before .before .before .before .before .args .s)) (c .before .loop .p) (c .before .loop .last) (c .before .loop .x) (c .before .loop .at) (c .before .loop .inv .0) (c .loop-test .left), c .before .loop .inv .1)
 
 pub fields-spec : {M : Type 1} → statement M
 fields-spec =
@@ -88,6 +96,7 @@ fields-spec =
     same-length
     returns
     next-at-requires
+    tally-after-requires
     after-requires
     cast-byte
     byte-requires

@@ -17,33 +17,33 @@ unfolding finish
 returns c = simp (c .if1 .taken)
 
 some-read-requires : tie.Need-some-read-requires
-some-read-requires c κs = search needs
+some-read-requires c κs = c .before .before .before .pre .1
 
-cast-t12 : tie.Need-cast-t12
-cast-t12 c = let k = c .before .before .before .before .before .pre .short in omega arith
+cast-t13 : tie.Need-cast-t13
+cast-t13 c = let k = c .before .before .before .before .before .pre .0 .short in omega arith
 
 returns-2 : tie.Need-returns-2
 unfolding finish non
 returns-2 c = simp (c .before .before .if1 .left, simp (c .before .some-read .ensures) at (c .if2 .taken))
 
 missing-requires : tie.Need-missing-requires
-missing-requires c κs = search needs
+missing-requires c κs = c .before .before .before .before .before .pre .1
 
-cast-t14 : tie.Need-cast-t14
-cast-t14 c = let k = c .before .before .before .before .before .before .before .pre .short in omega arith
+cast-t15 : tie.Need-cast-t15
+cast-t15 c = let k = c .before .before .before .before .before .before .before .pre .0 .short in omega arith
 
 returns-3 : tie.Need-returns-3
 unfolding finish non
 returns-3 c = simp (c .before .before .before .before .if1 .left, simp (c .before .before .before .some-read .ensures) at (c .before .before .if2 .left), simp (c .before .missing .ensures) at (c .if3 .taken))
 
-lowest-lacking-requires : tie.Need-lowest-lacking-requires
-lowest-lacking-requires c κs = search needs
+lack-requires : tie.Need-lack-requires
+lack-requires c κs = c .before .before .before .before .before .before .before .pre
 
 enum-told : tie.Need-enum-told
 enum-told c = search needs
 
-enum-known-lack : tie.Need-enum-known-lack
-enum-known-lack c = search needs
+enum-known-lacks : tie.Need-enum-known-lacks
+enum-known-lacks c = search needs
 
 place-of-requires : tie.Need-place-of-requires
 place-of-requires c κs = search needs
@@ -53,13 +53,13 @@ place-of-requires-2 c κs = search needs
 
 returns-4 : tie.Need-returns-4
 unfolding finish non completed
-returns-4 c = let l : none ≡ lowestLacking (execution (now (c .before .before .before .before .before .before .before .before .before .before .args .s)) (c .before .before .before .before .before .before .before .before .before .before .args .x) (now (c .before .before .before .before .before .before .before .before .before .before .args .at))) = rw (c .enum-told .given .1) at (c .before .before .lowest-lacking .ensures) in
+returns-4 c = let l : none ≡ lowestLacking (execution (now (c .before .before .before .before .before .before .before .before .before .before .args .s)) (c .before .before .before .before .before .before .before .before .before .before .args .x) (now (c .before .before .before .before .before .before .before .before .before .before .args .at))) = rw (c .enum-told .given .1) at (c .before .before .lack .ensures) in
     simp (c .before .before .before .before .before .before .before .if1 .left, simp (c .before .before .before .before .before .before .some-read .ensures) at (c .before .before .before .before .before .if2 .left), simp (c .before .before .before .before .missing .ensures) at (c .before .before .before .if3 .left), ← l)
 
 returns-5 : tie.Need-returns-5
 unfolding finish non
-returns-5 c = let l : some _ ≡ lowestLacking (execution (now (c .before .before .before .before .before .before .before .before .before .before .before .before .before .args .s)) (c .before .before .before .before .before .before .before .before .before .before .before .before .before .args .x) (now (c .before .before .before .before .before .before .before .before .before .before .before .before .before .args .at))) = rw (c .before .before .before .lack .given .1) at (c .before .before .before .before .before .lowest-lacking .ensures) in
-    simp (c .before .before .before .before .before .before .before .before .before .before .if1 .left, simp (c .before .before .before .before .before .before .before .before .before .some-read .ensures) at (c .before .before .before .before .before .before .before .before .if2 .left), simp (c .before .before .before .before .before .before .before .missing .ensures) at (c .before .before .before .before .before .before .if3 .left), ← l, c .place-of2 .ensures, c .before .place-of .ensures) (sym (place-found (now (c .before .before .before .before .before .before .before .before .before .before .before .before .before .args .s)) (c .before .before .before .before .before .before .before .before .before .before .before .before .before .args .last) (c .before .before .before .before .before .before .before .before .before .before .before .before .before .args .x) (now (c .before .before .before .before .before .before .before .before .before .before .before .before .before .args .at)) _ (counted-of _ _ _ _ _ (c .before .before .before .before .before .before .before .before .before .before .before .before .before .pre .between)) (sym l)))
+returns-5 c = let l : some _ ≡ lowestLacking (execution (now (c .before .before .before .before .before .before .before .before .before .before .before .before .before .args .s)) (c .before .before .before .before .before .before .before .before .before .before .before .before .before .args .x) (now (c .before .before .before .before .before .before .before .before .before .before .before .before .before .args .at))) = rw (c .before .before .before .lacks .given .1) at (c .before .before .before .before .before .lack .ensures) in
+    simp (c .before .before .before .before .before .before .before .before .before .before .if1 .left, simp (c .before .before .before .before .before .before .before .before .before .some-read .ensures) at (c .before .before .before .before .before .before .before .before .if2 .left), simp (c .before .before .before .before .before .before .before .missing .ensures) at (c .before .before .before .before .before .before .if3 .left), ← l, c .place-of2 .ensures, c .before .place-of .ensures) (sym (place-found (now (c .before .before .before .before .before .before .before .before .before .before .before .before .before .args .s)) (c .before .before .before .before .before .before .before .before .before .before .before .before .before .args .last) (c .before .before .before .before .before .before .before .before .before .before .before .before .before .args .x) (now (c .before .before .before .before .before .before .before .before .before .before .before .before .before .args .at)) _ (counted-of _ _ _ _ _ (c .before .before .before .before .before .before .before .before .before .before .before .before .before .pre .0 .between)) (sym l)))
 
 pub finish-spec : {M : Type 1} → statement M
 finish-spec =
@@ -67,14 +67,14 @@ finish-spec =
     (tie.spec
     returns
     some-read-requires
-    cast-t12
+    cast-t13
     returns-2
     missing-requires
-    cast-t14
+    cast-t15
     returns-3
-    lowest-lacking-requires
+    lack-requires
     enum-told
-    enum-known-lack
+    enum-known-lacks
     place-of-requires
     place-of-requires-2
     returns-4

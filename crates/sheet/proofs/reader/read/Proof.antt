@@ -47,10 +47,10 @@ returns-2 : tie.Need-returns-2
 returns-2 c = handed-refusal (now (c .before .before .before .before .before .before .before .before .before .args .s)) _ _ (c .refuse2 .result) (c .refuse2 .ensures) (rw (c .before .before .scan .given .1) at (c .before .before .before .before .before .fields .ensures))
 
 returns-3 : tie.Need-returns-3
-returns-3 c = handed-refusal (now (c .before .before .before .before .before .before .before .before .before .before .before .before .before .before .args .s)) _ _ (c .refuse3 .result) (c .refuse3 .ensures) ((rw (c .before .before .before .before .before .before .before .scan2 .given .1) at (c .before .before .before .before .before .before .before .before .before .before .fields .ensures)) .goes ∙ sym (rw (c .before .before .reading .given .1) at (c .before .before .before .before .finish .ensures)))
+returns-3 c = handed-refusal (now (c .before .before .before .before .before .before .before .before .before .before .before .before .before .before .args .s)) _ _ (c .refuse3 .result) (c .refuse3 .ensures) ((rw (c .before .before .before .before .before .before .before .scan2 .given .1) at (c .before .before .before .before .before .before .before .before .before .before .fields .ensures)) .0 .goes ∙ sym (rw (c .before .before .reading .given .1) at (c .before .before .before .before .finish .ensures)))
 
 returns-4 : tie.Need-returns-4
-returns-4 c = handed-whole (now (c .before .before .before .before .before .before .before .before .before .before .before .before .args .s)) _ _ _ (rw (c .before .before .before .before .before .scan2 .given .1) at (c .before .before .before .before .before .before .before .before .fields .ensures)) (rw (c .enum-told .given .1) at (c .before .before .finish .ensures))
+returns-4 c = handed-whole (now (c .before .before .before .before .before .before .before .before .before .before .before .before .args .s)) _ _ _ ((rw (c .before .before .before .before .before .scan2 .given .1) at (c .before .before .before .before .before .before .before .before .fields .ensures)) .0) (rw (c .enum-told .given .1) at (c .before .before .finish .ensures))
 
 pub read-spec : {M : Type 1} → statement M
 read-spec =

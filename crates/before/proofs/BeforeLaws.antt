@@ -93,6 +93,10 @@ module _ (succ : List ℕ) (l : List ℕ) where
   turn-length zero = refl
   turn-length (suc k) = scatter-length (getD succ k 0) k (upTo (turnAt succ) k l) ∙ turn-length k
 
+  pub columns-length : (n : ℕ) → length (columnsIn succ n l) ≡ length l
+  unfolding columnsIn
+  columns-length n = turn-length (taken n succ)
+
   turn-mem : length l ≡ slots → (k d e : ℕ) → mem (getD (upTo (turnAt succ) k l) d 0) e ≡ (mem (getD l d 0) e or (ltb e k and (ltb d slots and mem (getD succ e 0) d)))
   unfolding upTo _or_
   turn-mem long zero d e = sym (ap (λ (b : Bool). mem (getD l d 0) e or b) (and-fails (ltb e 0) _ (le-ltb e 0 (omega arith))) ∙ or-none (mem (getD l d 0) e))

@@ -1,7 +1,7 @@
 -- The laws of specs/Own.antt and specs/steps/ByAgent.antt. Assumes nothing.
 --     own-init, own-other                        the mask of an init, of another event
 --     agents-none, agents-more, agents-length, agents-mem     each agent's events
---     behind-is, own-is                          the masks by agent give the same
+--     behind-is, ahead-is, later-is, earlier-is  the masks by agent give the same
 use mathlib.Core.Path.{_≡_, refl, sym, ap, _∙_}
 use mathlib.Core.Bool.{Bool, true, false, cond, not}
 use mathlib.Core.List.{List}
@@ -15,15 +15,15 @@ use lib.ListN.{length, getD, replicate, length-replicate, getD-replicate}
 use Rattle.basis.specs.Test.{_and_, _or_, non}
 use Rattle.basis.proofs.BoolLaws.{and-fails, and-both, or-none, non-holds, and-assoc, or-assoc, non-fails, eqb-swap, below-next, amp-and, not-non, false-of}
 use Rattle.sets.specs.Mask.{slots, mem, full}
-use Rattle.sets.proofs.MaskLaws.{mem-empty, mem-diff, mem-full, full-has, lt-of-members, ext-all}
+use Rattle.sets.proofs.MaskLaws.{mem-empty, mem-and, mem-diff, mem-full, full-has, lt-of-members, ext-all}
 use Rattle.cells.specs.Walk.{upTo, picked}
 use Rattle.cells.specs.Cells.{gaining}
 use Rattle.cells.proofs.WalkLaws.{upTo-more, mem-picked}
 use Rattle.cells.proofs.CellsLaws.{gaining-length, gaining-mem}
 use Rattle.tables.specs.Tables.{agentRoom, agentIn}
 use Rattle.tables.proofs.TablesLaws.{agent-place}
-use Rattle.own.specs.Own.{metIn, laterIn, ownIn}
-use Rattle.own.specs.steps.ByAgent.{agentsIn, behindIn, ownBy}
+use Rattle.own.specs.Own.{metIn, laterIn, ownIn, laterOf, earlierOf}
+use Rattle.own.specs.steps.ByAgent.{agentsIn, behindIn, aheadIn, laterBy, earlierBy}
 
 -- ---- masks of events
 
@@ -96,6 +96,27 @@ module _ (t : List ℕ) (n e : ℕ) (few : n ≤ slots) (h : e < n) where
           ∙ and-assoc (ltb d n) (eqb (agentIn t d) (agentIn t e)) (ltb e d)
           ∙ ap (λ (b : Bool). ltb d n and (b and ltb e d)) (eqb-swap (agentIn t d) (agentIn t e))
 
-  pub own-is : ownBy t n by e ≡ ownIn t n e
-  unfolding ownBy ownIn
-  own-is = ap (cond (eqb (agentIn t e) 0) (picked n (metIn t e))) behind-is
+  pub ahead-is : aheadIn t by e ≡ picked n (λ (d : ℕ). laterIn t d e)
+  unfolding aheadIn laterIn
+  ahead-is =
+      let i : min e slots ≡ e = omega arith in
+      ap (λ (k : ℕ). bitAnd (getD by (agentIn t e) 0) (full k)) i
+      ∙ ext-all (bitAnd (getD by (agentIn t e) 0) (full e)) (picked n (λ (d : ℕ). laterIn t d e))
+      (λ d. mem-and (getD by (agentIn t e) 0) (full e) d
+      ∙ amp-and (mem (getD by (agentIn t e) 0) d) (mem (full e) d)
+      ∙ ap (λ (b : Bool). b and mem (full e) d) (by-mem d)
+      ∙ ap (λ (b : Bool). (ltb d n and eqb (agentIn t d) (agentIn t e)) and b) (low d (decLt d e))
+      ∙ and-assoc (ltb d n) (eqb (agentIn t d) (agentIn t e)) (ltb d e)
+      ∙ sym (mem-picked n (λ (d : ℕ). laterIn t d e) d))
+    where
+      low : (d : ℕ) → Dec (d < e) → mem (full e) d ≡ ltb d e
+      low d (yes l) = mem-full e d l ∙ sym (lt-ltb d e l)
+      low d (no l) = false-of _ (λ g. let z = full-has e d g in absurd (l z)) ∙ sym (le-ltb d e (omega (arith, l)))
+
+  pub later-is : laterBy t by e ≡ laterOf t n e
+  unfolding laterBy laterOf
+  later-is = ap (cond (eqb (agentIn t e) 0) 0) behind-is
+
+  pub earlier-is : earlierBy t by e ≡ earlierOf t n e
+  unfolding earlierBy earlierOf
+  earlier-is = ap (cond (eqb (agentIn t e) 0) 0) ahead-is

@@ -2,6 +2,7 @@
 --     meetsIn t e d             an access of e and one of d share a byte           metIn t e d      and d is another event
 --     laterIn t e d             d is a later event of e's agent
 --     ownIn t n e               an init's mask: what it meets; another event's: what is later
+--     laterOf, earlierOf t n e  an init's mask: nothing; another event's: what is later, what is earlier
 -- Assumes nothing.
 use mathlib.Core.Bool.{Bool, cond}
 use mathlib.Core.List.{List}
@@ -23,3 +24,9 @@ laterIn t e d = eqb (agentIn t e) (agentIn t d) and ltb e d
 
 unfoldable pub ownIn : List ℕ → ℕ → ℕ → ℕ
 ownIn t n e = cond (eqb (agentIn t e) 0) (picked n (metIn t e)) (picked n (laterIn t e))
+
+unfoldable pub laterOf : List ℕ → ℕ → ℕ → ℕ
+laterOf t n e = cond (eqb (agentIn t e) 0) 0 (picked n (laterIn t e))
+
+unfoldable pub earlierOf : List ℕ → ℕ → ℕ → ℕ
+earlierOf t n e = cond (eqb (agentIn t e) 0) 0 (picked n (λ (d : ℕ). laterIn t d e))

@@ -8,12 +8,14 @@ use sets::least;
 use tables::AGENTS;
 use tables::COLUMNS;
 ghost use mathlib.Core.Path.{_≡_};
+ghost use mathlib.Core.Bool.{cond};
 ghost use Prim.Native.Nat.{_%_, min};
+ghost use lib.Dec.{eqb};
 ghost use Rattle.sets.specs.Mask.{slots};
 ghost use Rattle.cells.specs.Walk.{picked};
 ghost use Rattle.cells.specs.Cells.{placing};
-ghost use Rattle.own.specs.Own.{meetsIn, metIn, ownIn};
-ghost use Rattle.own.specs.steps.ByAgent.{agentsIn, behindIn, ownBy};
+ghost use Rattle.own.specs.Own.{meetsIn, metIn, laterOf, earlierOf};
+ghost use Rattle.own.specs.steps.ByAgent.{agentsIn, behindIn, aheadIn};
 
 // Shares an access of event e a byte with one of event d? Without a jump: which events an init meets is hard to foresee.
 fn meets(t: &[u8; COLUMNS], e: usize, d: usize) -> bool
@@ -37,7 +39,7 @@ fn met_by(t: &[u8; COLUMNS], e: usize, d: usize) -> bool
 }
 
 // The other events below n that e meets; n counts up to the slots, and so below.
-fn met(t: &[u8; COLUMNS], n: usize, e: usize) -> u32
+pub fn met(t: &[u8; COLUMNS], n: usize, e: usize) -> u32
     ensures { λ r. ⌜ r ≡ picked (min n slots) (metIn (now (t .entry)) (e % slots)) ⌝ }
 {
     let m = least(n, SLOTS);
@@ -66,24 +68,31 @@ fn behind(t: &[u8; COLUMNS], by: &[u32; AGENTS], e: usize) -> u32
     by[tables::agent(t, i) as usize % AGENTS] & !sets::full(i + 1)
 }
 
-// An init leads to what it meets, another event to what is later.
-fn own(t: &[u8; COLUMNS], n: usize, by: &[u32; AGENTS], e: usize) -> u32
-    ensures { λ r. ⌜ r ≡ ownBy (now (t .entry)) (min n slots) (now (by .entry)) (e % slots) ⌝ }
+// Those ahead of it.
+fn ahead(t: &[u8; COLUMNS], by: &[u32; AGENTS], e: usize) -> u32
+    ensures { λ r. ⌜ r ≡ aheadIn (now (t .entry)) (now (by .entry)) (e % slots) ⌝ }
 {
-    if tables::agent(t, e) == 0 {
-        return met(t, n, e);
-    }
-    behind(t, by, e)
+    let i = e % SLOTS;
+    by[tables::agent(t, i) as usize % AGENTS] & sets::full(i)
 }
 
-// The masks of the first n events.
-pub fn owns(t: &[u8; COLUMNS], n: usize, succ: &mut [u32])
-    ensures { λ _. ⌜ now (succ .exit) ≡ placing (ownIn (now (t .entry)) (min n slots)) (min n slots) (now (succ .entry)) ⌝ }
+// A mask, or nothing for agent 0, whose events are the inits.
+fn unless_init(agent: u8, m: u32) -> u32
+    ensures { λ r. ⌜ r ≡ cond (eqb agent 0) 0 m ⌝ }
+{
+    if agent == 0 { 0 } else { m }
+}
+
+// The masks of the first n events: what is later in their agent's order, and what is earlier.
+pub fn laters(t: &[u8; COLUMNS], n: usize, later: &mut [u32], earlier: &mut [u32])
+    ensures { λ _. ⌜ (now (later .exit) ≡ placing (laterOf (now (t .entry)) (min n slots)) (min n slots) (now (later .entry))) × (now (earlier .exit) ≡ placing (earlierOf (now (t .entry)) (min n slots)) (min n slots) (now (earlier .entry))) ⌝ }
 {
     let mut by = [0u32; AGENTS];
     agents(t, n, &mut by);
     let m = least(n, SLOTS);
     for e in 0..m {
-        place(succ, e, own(t, n, &by, e));
+        let agent = tables::agent(t, e);
+        place(later, e, unless_init(agent, behind(t, &by, e)));
+        place(earlier, e, unless_init(agent, ahead(t, &by, e)));
     }
 }

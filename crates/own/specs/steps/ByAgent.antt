@@ -1,6 +1,7 @@
 -- An event's own mask (`ownIn`, specs/Own.antt) by a mask for each agent. Laws: proofs/OwnLaws.antt.
 --     agentsIn t n l       the masks l, of which each agent's has gained its events below n
---     behindIn t by e      the events of e's agent behind e           ownBy t n by e     an init's mask: what it meets; another event's: those
+--     behindIn t by e      the events of e's agent behind e           aheadIn t by e     those ahead of it
+--     laterBy, earlierBy t by e     the same, and nothing for an init
 -- Assumes nothing.
 use mathlib.Core.Bool.{cond}
 use mathlib.Core.List.{List}
@@ -9,10 +10,9 @@ use lib.Bits.{bitAnd}
 use lib.Dec.{eqb}
 use lib.ListN.{getD}
 use Rattle.sets.specs.Mask.{slots, full}
-use Rattle.cells.specs.Walk.{upTo, picked}
+use Rattle.cells.specs.Walk.{upTo}
 use Rattle.cells.specs.Cells.{gaining}
 use Rattle.tables.specs.Tables.{agentIn}
-use Rattle.own.specs.Own.{metIn}
 
 unfoldable pub agentsIn : List ℕ → ℕ → List ℕ → List ℕ
 agentsIn t n l = upTo (λ (e : ℕ) (m : List ℕ). gaining m (agentIn t e) e) n l
@@ -20,5 +20,11 @@ agentsIn t n l = upTo (λ (e : ℕ) (m : List ℕ). gaining m (agentIn t e) e) n
 unfoldable pub behindIn : List ℕ → List ℕ → ℕ → ℕ
 behindIn t by e = bitAnd (getD by (agentIn t e) 0) (2 ^ slots - 1 - full (min (e + 1) slots))
 
-unfoldable pub ownBy : List ℕ → ℕ → List ℕ → ℕ → ℕ
-ownBy t n by e = cond (eqb (agentIn t e) 0) (picked n (metIn t e)) (behindIn t by e)
+unfoldable pub aheadIn : List ℕ → List ℕ → ℕ → ℕ
+aheadIn t by e = bitAnd (getD by (agentIn t e) 0) (full (min e slots))
+
+unfoldable pub laterBy : List ℕ → List ℕ → ℕ → ℕ
+laterBy t by e = cond (eqb (agentIn t e) 0) 0 (behindIn t by e)
+
+unfoldable pub earlierBy : List ℕ → List ℕ → ℕ → ℕ
+earlierBy t by e = cond (eqb (agentIn t e) 0) 0 (aheadIn t by e)

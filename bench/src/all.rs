@@ -1,5 +1,5 @@
 //! The tables of docs/BENCHMARKS.md: whole sheets in every build of the ordinary judge, lists, sheets a second, worst cases.
-use crate::sheets::{columns, Line, Times, KINDS};
+use crate::sheets::{columns, fresh_columns, Line, Times, KINDS};
 use std::process::Command;
 
 /// What a build measured: its name, its lines, and those of the lists.
@@ -24,7 +24,7 @@ fn measured(program: &str) -> Build {
         let number = |i: usize| words[i].parse::<f64>().expect("a number");
         let times = |i: usize| Times { lowest: number(i), median: number(i + 1) };
         let kind = KINDS.into_iter().find(|kind| kind.replace(' ', "-") == words[1]).expect("a kind");
-        Line { events: number(0) as usize, kind, times: [times(2), times(4)] }
+        Line { events: number(0) as usize, kind, times: [times(2), times(4)], fresh: [number(6), number(7)] }
     };
     Build {
         name: asked(program, &["build"]).trim().to_string(),
@@ -40,17 +40,17 @@ pub fn run(others: &[&str]) {
     let builds: Vec<Build> = [own].iter().chain(others).map(|program| measured(program)).collect();
     println!("{}\n", crate::machine());
     println!("### Whole sheets\n");
-    println!("| Events | Answer | Plimdrong | Ordinary | Ratio | Medians | Ratio | Build |");
-    println!("|---|---|---|---|---|---|---|---|");
-    let lowest = |line: usize, judge: usize| {
-        let times = |b: &&Build| b.lines[line].times[judge].lowest;
-        builds.iter().min_by(|a, b| times(a).total_cmp(&times(b))).expect("some build")
-    };
+    println!("| Events | Answer | Plimdrong | Ordinary | Ratio | Medians | Ratio | Fresh | Ratio | Build |");
+    println!("|---|---|---|---|---|---|---|---|---|---|");
+    // the build in which this time of a line is least
+    let least = |of: &dyn Fn(&Build) -> f64| builds.iter().min_by(|a, b| of(a).total_cmp(&of(b))).expect("some build");
+    let lowest = |line: usize, judge: usize| least(&|b: &Build| b.lines[line].times[judge].lowest);
     for i in 0..builds[0].lines.len() {
         let best = lowest(i, 1);
-        let Line { events, kind, times: [ours, ordinary] } = best.lines[i];
+        let Line { events, kind, times: [ours, ordinary], .. } = best.lines[i];
         let ours = Times { lowest: lowest(i, 0).lines[i].times[0].lowest, ..ours };
-        println!("| {events} | {kind} | {} | {} |", columns([ours, ordinary]), best.name);
+        let fresh = [0, 1].map(|judge| least(&|b: &Build| b.lines[i].fresh[judge]).lines[i].fresh[judge]);
+        println!("| {events} | {kind} | {} | {} | {} |", columns([ours, ordinary]), fresh_columns(fresh), best.name);
     }
     println!("\nThe ordinary judge by build, lowest:\n");
     let names: Vec<&str> = builds.iter().map(|b| &b.name[..]).collect();

@@ -14,6 +14,10 @@ const ROUNDS: usize = 401;
 /// A round takes about this long in seconds: less than a slice of the processor, so that the lowest was not interrupted.
 const ROUND: f64 = 4e-4;
 
+/// Rounds of `fresh`, and how many other sheets are judged before each.
+const FRESH_ROUNDS: usize = 41;
+const OTHERS: usize = 1000;
+
 /// The judge and the ordinary one.
 pub const JUDGES: [Judge; 2] = [plimdrong::judge_with, ordinary::judge];
 const CHECKS: [Check; 2] = [plimdrong::check_with, ordinary::check];
@@ -112,6 +116,33 @@ pub fn judged(sheets: &[Vec<u8>]) -> [Times; 2] {
     in_turn(sheets, [&mut ours, &mut ordinary])
 }
 
+/// Random sheets of a size, whatever their answer, none of them among those that are timed.
+pub fn others(n: usize) -> Vec<Vec<u8>> {
+    let mut rng = Rng::new(3000 + n as u64);
+    (0..OTHERS).map(|_| sized(&mut rng, n)).collect()
+}
+
+/// Nanoseconds a sheet of each judge where these sheets do not come again soon: each time after all the others. The lowest.
+/// With few sheets again and again the processor knows where each one jumps (docs/BENCHMARKS.md).
+pub fn fresh(sheets: &[Vec<u8>], others: &[Vec<u8>], rounds: usize) -> [f64; 2] {
+    let (mut scratch, mut order) = (vec![0; MAX_SCRATCH], [0; MAX_EVENTS]);
+    let mut lowest = [f64::INFINITY; 2];
+    for _ in 0..rounds {
+        for (judge, lowest) in JUDGES.into_iter().zip(&mut lowest) {
+            let mut pass = |sheets: &[Vec<u8>]| {
+                let began = Instant::now();
+                for sheet in sheets {
+                    black_box(judge(black_box(sheet), &mut scratch, &mut order));
+                }
+                began.elapsed().as_secs_f64()
+            };
+            pass(others);
+            *lowest = lowest.min(pass(sheets) * 1e9 / sheets.len() as f64);
+        }
+    }
+    lowest
+}
+
 /// The sheets are as many as they should be, and answered alike by both judges, with the kind's answer.
 fn hold(n: usize, all: &ByKind) {
     for (sheets, wanted) in all.iter().zip(KINDS) {
@@ -128,12 +159,20 @@ pub struct Line {
     pub events: usize,
     pub kind: &'static str,
     pub times: [Times; 2],
+    pub fresh: [f64; 2],
 }
 
 /// The times of both judges at a size, for each kind.
 fn lines(n: usize, all: &ByKind) -> [Line; 4] {
     hold(n, all);
-    std::array::from_fn(|i| Line { events: n, kind: KINDS[i], times: judged(&all[i]) })
+    let others = others(n);
+    let line = |i: usize| Line {
+        events: n,
+        kind: KINDS[i],
+        times: judged(&all[i]),
+        fresh: fresh(&all[i], &others, FRESH_ROUNDS),
+    };
+    std::array::from_fn(line)
 }
 
 /// The consistent sheets with the judge's order, which both checks accept.
@@ -169,6 +208,11 @@ pub fn columns([ours, ordinary]: [Times; 2]) -> String {
     )
 }
 
+/// The columns of two times of sheets that do not come again soon: both, ratio.
+pub fn fresh_columns([ours, ordinary]: [f64; 2]) -> String {
+    format!("{ours:.0} and {ordinary:.0} ns | {:.2}", ours / ordinary)
+}
+
 /// What the words behind `sheets` ask for.
 pub fn run(words: &[&str]) {
     let edition = match words {
@@ -180,13 +224,13 @@ pub fn run(words: &[&str]) {
         _ => crate::usage(),
     };
     println!("{}\n", crate::machine());
-    println!("| Events | Answer | Plimdrong | Ordinary | Ratio | Medians | Ratio |");
-    println!("|---|---|---|---|---|---|---|");
+    println!("| Events | Answer | Plimdrong | Ordinary | Ratio | Medians | Ratio | Fresh | Ratio |");
+    println!("|---|---|---|---|---|---|---|---|---|");
     let mut listed = vec![];
     for n in SIZES {
         let all = at_edition(edition, sheets(n));
         for line in lines(n, &all) {
-            println!("| {n} | {} | {} |", line.kind, columns(line.times));
+            println!("| {n} | {} | {} | {} |", line.kind, columns(line.times), fresh_columns(line.fresh));
         }
         listed.push(list_line(n, all));
     }
@@ -198,8 +242,9 @@ pub fn run(words: &[&str]) {
 fn raw() {
     for n in SIZES {
         let all = sheets(n);
-        for Line { events, kind, times: [ours, ordinary] } in lines(n, &all) {
-            let numbers = [ours.lowest, ours.median, ordinary.lowest, ordinary.median].map(|t| t.to_string());
+        for Line { events, kind, times: [ours, ordinary], fresh } in lines(n, &all) {
+            let numbers = [ours.lowest, ours.median, ordinary.lowest, ordinary.median, fresh[0], fresh[1]];
+            let numbers = numbers.map(|t| t.to_string());
             println!("{events} {} {}", kind.replace(' ', "-"), numbers.join(" "));
         }
         println!("{}", list_line(n, all));

@@ -9,6 +9,7 @@ use second::random::Rng;
 use second::sheet::{read, Execution};
 use second::text::{from_text, to_text};
 use std::fs;
+use std::sync::OnceLock;
 
 const FOLDER: &str = concat!(env!("CARGO_MANIFEST_DIR"), "/worst");
 
@@ -27,12 +28,12 @@ struct Case {
     steps: usize,
 }
 
-const CASES: [Case; 5] = [
+const CASES: [Case; 6] = [
     Case {
         name: "sets",
         what: "the most reachable sets of 18 events and 8 agents",
         none: false,
-        score: |_, p| p.reachable().0 as f64,
+        score: |_, _, p| p.reachable().0 as f64,
         start: balanced,
         steps: 0,
     },
@@ -40,7 +41,7 @@ const CASES: [Case; 5] = [
         name: "rows",
         what: "the most rows, and of these the most runs of one writer",
         none: false,
-        score: |x, _| (x.rows.len() * 1000 + runs(x)) as f64,
+        score: |_, x, _| (x.rows.len() * 1000 + runs(x)) as f64,
         start: striped,
         steps: 0,
     },
@@ -48,7 +49,7 @@ const CASES: [Case; 5] = [
         name: "bars",
         what: "the most bars",
         none: true,
-        score: |_, p| p.bars() as f64,
+        score: |_, _, p| p.bars() as f64,
         start: barred,
         steps: 40_000,
     },
@@ -56,16 +57,24 @@ const CASES: [Case; 5] = [
         name: "none",
         what: "no order, and the most sets entered",
         none: true,
-        score: |_, p| entered_in_vain(p) as f64,
+        score: |_, _, p| entered_in_vain(p) as f64,
         start: crossed,
         steps: 8_000,
+    },
+    Case {
+        name: "time",
+        what: "no order, and the longest time of the judge, fresh",
+        none: true,
+        score: |sheet, _, _| fresh_in_vain(sheet, 5),
+        start: excluded,
+        steps: 2_000,
     },
     Case {
         name: "again",
         what: "no order, and the most sets entered, once for each bar and once more",
         none: true,
-        score: |_, p| (entered_in_vain(p) * (p.bars() + 1)) as f64,
-        start: crossed,
+        score: |_, _, p| (entered_in_vain(p) * (p.bars() + 1)) as f64,
+        start: excluded,
         steps: 8_000,
     },
 ];
@@ -75,6 +84,16 @@ fn entered_in_vain(p: &Problem) -> usize {
     match p.entered() {
         (sets, false) => sets,
         _ => 0,
+    }
+}
+
+/// Nanoseconds of the judge where no order exists, after other sheets, the lowest of so many; else 0.
+fn fresh_in_vain(sheet: &[u8], rounds: usize) -> f64 {
+    static OTHERS: OnceLock<Vec<Vec<u8>>> = OnceLock::new();
+    let others = OTHERS.get_or_init(|| sheets::others(16));
+    match sheets::told(plimdrong::judge_with, sheet).0 >> 32 {
+        NONE => sheets::fresh(&[sheet.to_vec()], &others[..100], rounds)[0],
+        _ => 0.0,
     }
 }
 
@@ -131,6 +150,15 @@ fn crossed() -> Plan {
     Plan { memory: 2, inits: vec![(0, 2)], events, pairs: vec![] }
 }
 
+/// Sixteen sc reads of four bytes from four inits, two of each agent, and two read-modify-writes that exclude each other, each
+/// last of its agent: they wait for every read, by every init. 3^8 sets.
+fn excluded() -> Plan {
+    let from_inits = [0, 1, 2, 3, 0, 0, 0, 0];
+    let mut events: Vec<Event> = (0..16).map(|i| event(1 + i % 8, 1, 2, 0, 4, from_inits)).collect();
+    events.extend([1, 2].map(|agent| event(agent, 3, 2, 0, 4, from_inits)));
+    Plan { memory: 4, inits: vec![(0, 1), (1, 1), (2, 1), (3, 1)], events, pairs: vec![] }
+}
+
 /// What a sheet reaches, as its text says it.
 fn reaches(sheet: &[u8]) -> String {
     let x = read(sheet).expect("a whole sheet");
@@ -158,13 +186,18 @@ fn store(case: &Case, sheet: &[u8]) {
     fs::write(format!("{FOLDER}/{}.sheet", case.name), sheet).expect("can be written");
 }
 
+/// How bad a sheet is; times anew, of many rounds, as the highest of many that were taken in passing is mostly chance.
 fn value(case: &Case, sheet: &[u8]) -> f64 {
-    whole(sheet).map_or(-1.0, |x| (case.score)(&x, &Problem::of(&x)))
+    match case.name {
+        "time" => fresh_in_vain(sheet, 101),
+        _ => whole(sheet).map_or(-1.0, |x| (case.score)(sheet, &x, &Problem::of(&x))),
+    }
 }
 
-/// Climbs from each construction and from random plans, by this seed; what is worse than the stored sheet takes its place.
-fn search(seed: u64) {
-    for case in &CASES {
+/// Climbs from each construction and from random plans, by this seed, for all cases or one; what is worse than the stored sheet
+/// takes its place.
+fn search(seed: u64, name: &str) {
+    for case in CASES.iter().filter(|case| ["", case.name].contains(&name)) {
         let mut rng = Rng::new(seed);
         let first = (case.start)();
         let mut best = (value(case, &first.sheet()), first.clone());
@@ -178,10 +211,11 @@ fn search(seed: u64) {
                     plan = Plan::random(&mut rng);
                 }
             }
-            let found = climb(&mut rng, plan, case.steps, case.score);
-            println!("{}: {} by climb {round}", case.name, found.0);
-            if found.0 > best.0 {
-                best = found;
+            let (_, found) = climb(&mut rng, plan, case.steps, case.score);
+            let reached = value(case, &found.sheet());
+            println!("{}: {reached} by climb {round}", case.name);
+            if reached > best.0 {
+                best = (reached, found);
             }
         }
         let old = fs::read(format!("{FOLDER}/{}.sheet", case.name)).map_or(-1.0, |sheet| value(case, &sheet));
@@ -221,14 +255,17 @@ fn compare() {
 
 /// The table of the stored sheets.
 pub fn print() {
-    println!("| Sheet | Events | Rows | Bars | Reachable sets | Sets entered | Plimdrong | Ordinary | Ratio | Medians | Ratio |");
+    println!("| Sheet | Events | Rows | Bars | Reachable sets | Sets entered | Plimdrong | Ordinary | Ratio | Fresh | Ratio |");
     println!("|---|---|---|---|---|---|---|---|---|---|---|");
+    let others = sheets::others(16);
     for case in &CASES {
         let (sheet, _) = stored(case);
         let x = read(&sheet).expect("a whole sheet");
         let p = Problem::of(&x);
+        let all = [sheet];
+        let [ours, ordinary] = sheets::judged(&all).map(|times| times.lowest);
         println!(
-            "| `{}`: {} | {} | {} | {} | {} | {} | {} |",
+            "| `{}`: {} | {} | {} | {} | {} | {} | {ours:.0} ns | {ordinary:.0} ns | {:.2} | {} |",
             case.name,
             case.what,
             x.others(),
@@ -236,7 +273,8 @@ pub fn print() {
             p.bars(),
             p.reachable().0,
             p.entered().0,
-            sheets::columns(sheets::judged(&[sheet])),
+            ours / ordinary,
+            sheets::fresh_columns(sheets::fresh(&all, &others, 101)),
         );
     }
     println!(
@@ -250,8 +288,9 @@ pub fn run(words: &[&str]) {
     match words {
         [] => print(),
         ["compare"] => compare(),
-        ["find"] => search(1),
-        ["find", seed] => search(seed.parse().unwrap_or_else(|_| crate::usage())),
+        ["find"] => search(1, ""),
+        ["find", seed] => search(seed.parse().unwrap_or_else(|_| crate::usage()), ""),
+        ["find", seed, name] => search(seed.parse().unwrap_or_else(|_| crate::usage()), name),
         _ => crate::usage(),
     }
 }

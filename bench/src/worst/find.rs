@@ -182,11 +182,14 @@ pub fn whole(sheet: &[u8]) -> Option<Execution> {
 }
 
 /// How bad a sheet is.
-pub type Score = fn(&Execution, &Problem) -> f64;
+pub type Score = fn(&[u8], &Execution, &Problem) -> f64;
 
 /// From this plan on, so many changes.
 pub fn climb(rng: &mut Rng, mut plan: Plan, steps: usize, score: Score) -> (f64, Plan) {
-    let valued = |plan: &Plan| whole(&plan.sheet()).map_or(-1.0, |x| score(&x, &Problem::of(&x)));
+    let valued = |plan: &Plan| {
+        let sheet = plan.sheet();
+        whole(&sheet).map_or(-1.0, |x| score(&sheet, &x, &Problem::of(&x)))
+    };
     let mut now = valued(&plan);
     let mut best = (now, plan.clone());
     for step in 0..steps {

@@ -426,7 +426,6 @@ impl Bars {
 
     /// Depth first, always the lowest event that may be placed and does not lead to a set known to be a dead end; inits stand
     /// first, in the path too. The marks are zero before and after: a set is marked when it is left.
-    #[inline(never)]
     fn search(&self, r: &Read, marks: &mut [u8], path: &mut [u8; SLOTS]) -> bool {
         let (inits, n) = (r.inits, r.events);
         let all = (1u32 << n) - 1;

@@ -27,15 +27,15 @@ fn init_formed(agent: u8, a: Shape) -> bool
     (agent == 0) & ((a.kind == 2) & within(1, MAX_MEMORY, a.width))
 }
 
-// A width of 1, 2, 4 or 8; of an sc access one that divides the start. Here and below without a jump: what an event is is hard to foresee.
+// A width of 1, 2, 4 or 8; of an sc access one that divides the start: none of the bits below it are in the start, and 255 is 1 less than nothing
+// among eight bits. Here and below without a jump: what an event is is hard to foresee.
 fn sized(a: Shape) -> bool
     ensures { λ r. ⌜ r ≡ sized a ⌝ }
 {
     let w = a.width;
-    let free = !access::sc(a);
-    (w == 1)
-        | (((w == 2) & (free | (a.start % 2 == 0)))
-            | (((w == 4) & (free | (a.start % 4 == 0))) | ((w == 8) & (free | (a.start % 8 == 0)))))
+    let listed = (w == 1) | ((w == 2) | ((w == 4) | (w == 8)));
+    let even = a.start as u16 & (w as u16 + 255) == 0;
+    listed & (!access::sc(a) | even)
 }
 
 fn kind_fits(a: Shape) -> bool

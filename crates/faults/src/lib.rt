@@ -204,9 +204,13 @@ pub fn plain_init(s: &[u8], p: u16, x: Counts, at: &[u16]) -> bool
         return false;
     }
     let edition = x.head.edition;
-    let agent = entries::agent_at(s, p);
     let a = entries::shape_at(s, edition, p);
-    let here = (field::byte(s, place) == 2) & (access::initial(a) & event_ends(s, p, edition, a));
+    let first = access::initial(a);
+    if !first {
+        return false;
+    }
+    let agent = entries::agent_at(s, p);
+    let here = (field::byte(s, place) == 2) & event_ends(s, p, edition, a);
     let room = (agent == 0) & (x.inits < MAX_INITS);
     if !(here & room) {
         return false;

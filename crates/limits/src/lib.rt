@@ -30,10 +30,12 @@ pub fn room_for(inits: u8, others: u8, agent: u8) -> bool
     }
 }
 
+// Reader and address as one number, so that it is one comparison.
 pub fn row_below(q: Row, r: Row) -> bool
     ensures { λ y. ⌜ y ≡ rowBelow q r ⌝ }
 {
-    (q.reader < r.reader) | ((q.reader == r.reader) & (q.address < r.address))
+    let before = q.reader as u16 * 256 + q.address as u16;
+    before < r.reader as u16 * 256 + r.address as u16
 }
 
 pub fn pair_below(q: Pair, p: Pair) -> bool

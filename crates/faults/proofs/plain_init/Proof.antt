@@ -16,34 +16,36 @@ add-short c = search needs
 returns : tie.Need-returns
 returns c = λ h. absurd (false≢true h)
 
-agent-at-requires : tie.Need-agent-at-requires
-agent-at-requires c κs = search needs
-
 shape-at-requires : tie.Need-shape-at-requires
 shape-at-requires c κs = search needs
-
-byte-requires : tie.Need-byte-requires
-byte-requires c κs = search needs
 
 initial-requires : tie.Need-initial-requires
 initial-requires c κs = search needs
 
+returns-2 : tie.Need-returns-2
+returns-2 c = λ h. absurd (false≢true h)
+
+agent-at-requires : tie.Need-agent-at-requires
+agent-at-requires c κs = search needs
+
+byte-requires : tie.Need-byte-requires
+byte-requires c κs = search needs
+
 event-ends-requires : tie.Need-event-ends-requires
 event-ends-requires c κs = search needs
 
-returns-2 : tie.Need-returns-2
-returns-2 c = λ h. absurd (false≢true h)
+returns-3 : tie.Need-returns-3
+returns-3 c = λ h. absurd (false≢true h)
 
 event-fits-requires : tie.Need-event-fits-requires
 event-fits-requires c κs = search needs
 
-returns-3 : tie.Need-returns-3
-returns-3 c = λ h.
-    let v = and-parts (eqb (c .before .before .before .before .before .byte .result) 2 && (c .before .before .before .before .initial .result && c .before .before .before .event-ends .result)) (eqb (c .before .before .before .before .before .before .before .agent-at .result) 0 && ltb (c .before .before .before .before .before .before .before .before .before .before .before .args .x .inits) maxInits) (not-false _ (c .before .if2 .left)) in
-    let e = and-parts (eqb (c .before .before .before .before .before .byte .result) 2) (c .before .before .before .before .initial .result && c .before .before .before .event-ends .result) (v .0) in
-    let i = and-parts (c .before .before .before .before .initial .result) (c .before .before .before .event-ends .result) (e .1) in
-    let r = and-parts (eqb (c .before .before .before .before .before .before .before .agent-at .result) 0) (ltb (c .before .before .before .before .before .before .before .before .before .before .before .args .x .inits) maxInits) (v .1) in
-    init-plain (now (c .before .before .before .before .before .before .before .before .before .before .before .args .s)) (c .before .before .before .before .before .before .before .before .before .before .before .args .p) (c .before .before .before .before .before .before .before .before .before .before .before .args .x) (now (c .before .before .before .before .before .before .before .before .before .before .before .args .at)) (rw (c .before .before .before .before .before .byte .ensures) at (e .0)) (rw (c .before .before .before .event-ends .ensures, c .before .before .before .before .before .before .shape-at .ensures) at (i .1)) (rw (c .before .before .before .before .before .before .before .agent-at .ensures) at (r .0)) (r .1) (rw (c .event-fits .ensures, c .before .before .before .before .before .before .before .agent-at .ensures, c .before .before .before .before .before .before .shape-at .ensures) at h)
+returns-4 : tie.Need-returns-4
+returns-4 c = λ h.
+    let v = and-parts (eqb (c .before .before .before .before .byte .result) 2 && c .before .before .before .event-ends .result) (eqb (c .before .before .before .before .before .agent-at .result) 0 && ltb (c .before .before .before .before .before .before .before .before .before .before .before .before .args .x .inits) maxInits) (not-false _ (c .before .if3 .left)) in
+    let e = and-parts (eqb (c .before .before .before .before .byte .result) 2) (c .before .before .before .event-ends .result) (v .0) in
+    let r = and-parts (eqb (c .before .before .before .before .before .agent-at .result) 0) (ltb (c .before .before .before .before .before .before .before .before .before .before .before .before .args .x .inits) maxInits) (v .1) in
+    init-plain (now (c .before .before .before .before .before .before .before .before .before .before .before .before .args .s)) (c .before .before .before .before .before .before .before .before .before .before .before .before .args .p) (c .before .before .before .before .before .before .before .before .before .before .before .before .args .x) (now (c .before .before .before .before .before .before .before .before .before .before .before .before .args .at)) (rw (c .before .before .before .before .byte .ensures) at (e .0)) (rw (c .before .before .before .event-ends .ensures, c .before .before .before .before .before .before .before .before .shape-at .ensures) at (e .1)) (rw (c .before .before .before .before .before .agent-at .ensures) at (r .0)) (r .1) (rw (c .event-fits .ensures, c .before .before .before .before .before .agent-at .ensures, c .before .before .before .before .before .before .before .before .shape-at .ensures) at h)
 
 pub plain-init-spec : {M : Type 1} → statement M
 plain-init-spec =
@@ -51,11 +53,12 @@ plain-init-spec =
     (tie.spec
     add-short
     returns
-    agent-at-requires
     shape-at-requires
-    byte-requires
     initial-requires
-    event-ends-requires
     returns-2
+    agent-at-requires
+    byte-requires
+    event-ends-requires
+    returns-3
     event-fits-requires
-    returns-3)
+    returns-4)

@@ -12,9 +12,8 @@ use borrow.Author.Tests.{lt-ltb, le-ltb, ltb-true, ltb-false}
 use lib.Dec.{eqb, ltb}
 use lib.ListN.{length, getD, replicate, length-replicate, getD-replicate}
 use Rattle.basis.specs.Test.{_and_, _or_}
-use Rattle.basis.proofs.BoolLaws.{and-holds, and-fails, and-both, and-assoc, both-hold, or-holds, or-fails, or-none, or-second, or-either, or-assoc, bar-or, by-bool, bool-ext, eqb-swap, below-next}
-use Rattle.format.specs.declared.Shape.{Shape}
-use Rattle.format.specs.Shape.{writes, sc, equal}
+use Rattle.basis.proofs.BoolLaws.{and-fails, and-both, both-hold, or-holds, or-fails, or-none, or-second, or-either, or-assoc, bar-or, by-bool, bool-ext, eqb-swap, below-next}
+use Rattle.format.specs.Shape.{writes, sc}
 use Rattle.sets.specs.Mask.{slots, mem, Has, insert}
 use Rattle.sets.proofs.MaskLaws.{mem-empty, mem-insert}
 use Rattle.cells.specs.Walk.{upTo, onlyOf, over}

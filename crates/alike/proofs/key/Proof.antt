@@ -1,7 +1,6 @@
 -- `alike::key` meets its contract, by the mode. Assumes nothing.
 use mathlib.Core.Path.{sym, _∙_}
 use native.Mathlib.Omega.{arith}
-use borrow.Author.Tests.{not-true, not-false}
 use Rattle.alike.proofs.KeysLaws.{key-sc, key-not}
 use borrow.Author.Needs.{needs}
 use Rattle.alike.proofs.key.Statement.{statement}

@@ -1,7 +1,7 @@
 -- `alike::side` meets its contract: eq has gained the members that are gone from `left`. The measure is `left`. Assumes nothing.
 use mathlib.Core.Path.{_≡_, refl, sym, ap, ap₂, _∙_, subst}
 use mathlib.Core.List.{List}
-use Prim.Native.Nat.{ℕ, _+_, _*_, _/_, _%_, _<_, min}
+use Prim.Native.Nat.{ℕ, _+_, _*_, _/_, _%_, min}
 use native.Mathlib.Nat.{mod-eq-of-lt}
 use native.Mathlib.Omega.{arith}
 use denote.Ref.{now}

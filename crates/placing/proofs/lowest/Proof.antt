@@ -1,13 +1,12 @@
 -- `placing::lowest` meets its contract: each event that can be placed is left, or is not below those left. The measure is `left`, which gets smaller as a
 -- number. Assumes nothing.
-use mathlib.Core.Path.{_≡_, sym, ap, _∙_, subst}
+use mathlib.Core.Path.{sym, ap, _∙_, subst}
 use mathlib.Core.Bool.{false, false≢true}
-use Prim.Native.Nat.{ℕ, _%_, _<_}
+use Prim.Native.Nat.{ℕ}
 use native.Mathlib.Nat.{mod-eq-of-lt}
 use native.Mathlib.Omega.{arith}
-use denote.Ref.{now}
 use lib.ListN.{getD}
-use Rattle.sets.specs.Mask.{slots, remove}
+use Rattle.sets.specs.Mask.{remove}
 use Rattle.sets.proofs.MaskLaws.{remove-lt}
 use Rattle.placing.specs.Placing.{Free}
 use Rattle.placing.proofs.UntriedLaws.{Untried, untried-start, untried-lowest, untried-hit, untried-next, untried-end}

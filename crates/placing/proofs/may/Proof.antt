@@ -1,5 +1,4 @@
 -- `placing::may` meets its contract: with what it asks, its two tests are the fields of `Free`. Assumes nothing.
-use native.Mathlib.Omega.{arith}
 use borrow.Author.Needs.{needs}
 use borrow.Author.Tests.{not-true, not-false}
 use Rattle.basis.proofs.BoolLaws.{not-both-ways}

@@ -40,9 +40,9 @@ module _ (t : List ℕ) (n : ℕ) where
       by-bool (eqb (agentIn t e) 0)
       (λ q. absurd (not-both-ways (subst (λ (b : Bool). Has (cond b 0 (picked n (laterIn t e))) d) q h) (mem-empty d)))
       (λ q.
-        let p = and-both (ltb d n) (laterIn t e d) (sym (mem-picked n (laterIn t e) d) ∙ subst (λ (b : Bool). Has (cond b 0 (picked n (laterIn t e))) d) q h) in
-        let r = and-both (eqb (agentIn t e) (agentIn t d)) (ltb e d) (p .1) in
-        (q, ltb-true d n (p .0), eqb-true _ _ (r .0), ltb-true e d (r .1)))
+      let p = and-both (ltb d n) (laterIn t e d) (sym (mem-picked n (laterIn t e) d) ∙ subst (λ (b : Bool). Has (cond b 0 (picked n (laterIn t e))) d) q h) in
+      let r = and-both (eqb (agentIn t e) (agentIn t d)) (ltb e d) (p .1) in
+      (q, ltb-true d n (p .0), eqb-true _ _ (r .0), ltb-true e d (r .1)))
 
   later-in : (e d : ℕ) → Later t n e d → Has (laterOf t n e) d
   unfolding laterOf laterIn
@@ -56,9 +56,9 @@ module _ (t : List ℕ) (n : ℕ) where
       by-bool (eqb (agentIn t d) 0)
       (λ q. absurd (not-both-ways (subst (λ (b : Bool). Has (cond b 0 (picked n (λ (i : ℕ). laterIn t i d))) e) q h) (mem-empty e)))
       (λ q.
-        let p = and-both (ltb e n) (laterIn t e d) (sym (mem-picked n (λ (i : ℕ). laterIn t i d) e) ∙ subst (λ (b : Bool). Has (cond b 0 (picked n (λ (i : ℕ). laterIn t i d))) e) q h) in
-        let r = and-both (eqb (agentIn t e) (agentIn t d)) (ltb e d) (p .1) in
-        (q, ltb-true e n (p .0), eqb-true _ _ (r .0), ltb-true e d (r .1)))
+      let p = and-both (ltb e n) (laterIn t e d) (sym (mem-picked n (λ (i : ℕ). laterIn t i d) e) ∙ subst (λ (b : Bool). Has (cond b 0 (picked n (λ (i : ℕ). laterIn t i d))) e) q h) in
+      let r = and-both (eqb (agentIn t e) (agentIn t d)) (ltb e d) (p .1) in
+      (q, ltb-true e n (p .0), eqb-true _ _ (r .0), ltb-true e d (r .1)))
 
   earlier-in : (d e : ℕ) → eqb (agentIn t d) 0 ≡ false → e < n → agentIn t e ≡ agentIn t d → e < d → Has (earlierOf t n d) e
   unfolding earlierOf laterIn

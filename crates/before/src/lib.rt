@@ -86,7 +86,7 @@ fn beyond(n: usize, x: u32, succ: &[u32]) -> u32
 }
 
 // The same of b alone.
-fn target(n: usize, b: usize, succ: &[u32]) -> u32
+fn from_one(n: usize, b: usize, succ: &[u32]) -> u32
     requires { ⌜ (b < slots) × (length (now succ) ≡ slots) ⌝ }
     ensures { λ r. ⌜ Beyond n (now (succ .entry)) (insert 0 b) r ⌝ }
 {
@@ -108,7 +108,7 @@ fn step(n: usize, a: usize, b: usize, succ: &mut [u32], cols: &mut [u32])
     if sets::has(succ[a], b) {
         return;
     }
-    let d = target(n, b, succ);
+    let d = from_one(n, b, succ);
     join(a, d, succ, cols);
 }
 

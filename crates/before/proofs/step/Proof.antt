@@ -45,8 +45,8 @@ returns-2 c =
     step-known (c .before .before .before .before .before .before .args .n) (c .before .before .before .before .before .before .pre .0) (now (c .before .before .before .before .before .before .args .succ)) (now (c .before .before .before .before .before .before .args .cols)) (c .before .before .before .before .before .before .pre .3) (c .before .before .before .before .before .before .pre .4) (c .before .before .before .before .before .before .args .a) (c .before .before .before .before .before .before .args .b) (c .before .before .before .before .before .before .pre .1) (omega (arith, c .before .before .before .if1 .left))
     (ap (mem (getD (now (c .before .before .before .before .before .before .args .succ)) (c .before .before .before .before .before .before .args .a) 0)) (sym (mod-eq-of-lt (c .before .before .before .before .before .before .pre .2))) ∙ sym (c .before .has .ensures) ∙ c .if2 .taken)
 
-target-requires : tie.Need-target-requires
-target-requires c κs = search needs
+from-one-requires : tie.Need-from-one-requires
+from-one-requires c κs = search needs
 
 join-requires : tie.Need-join-requires
 join-requires c κs = search needs
@@ -58,7 +58,7 @@ same-length-3 : tie.Need-same-length-3
 same-length-3 c = search needs
 
 returns-3 : tie.Need-returns-3
-returns-3 c = step-new (c .before .before .before .before .before .before .before .before .before .before .before .before .before .before .before .args .n) (c .before .before .before .before .before .before .before .before .before .before .before .before .before .before .before .pre .0) (now (c .before .before .before .before .before .before .before .before .before .before .before .before .before .before .before .args .succ)) (now (c .before .before .before .before .before .before .before .before .before .before .before .before .before .before .before .args .cols)) (c .before .before .before .before .before .before .before .before .before .before .before .before .before .before .before .pre .3) (c .before .before .before .before .before .before .before .before .before .before .before .before .before .before .before .pre .4) (c .before .before .before .before .before .before .before .before .before .before .before .before .before .before .before .args .a) (c .before .before .before .before .before .before .before .before .before .before .before .before .before .before .before .args .b) (c .before .before .before .before .before .before .before .before .before .before .before .before .before .before .before .pre .1) (omega (arith, c .before .before .before .before .before .before .before .before .before .before .before .before .if1 .left)) (c .before .before .before .before .before .before .before .target .result) (c .before .before .before .before .before .before .before .target .ensures) (c .before .before .before .before .join .ensures)
+returns-3 c = step-new (c .before .before .before .before .before .before .before .before .before .before .before .before .before .before .before .args .n) (c .before .before .before .before .before .before .before .before .before .before .before .before .before .before .before .pre .0) (now (c .before .before .before .before .before .before .before .before .before .before .before .before .before .before .before .args .succ)) (now (c .before .before .before .before .before .before .before .before .before .before .before .before .before .before .before .args .cols)) (c .before .before .before .before .before .before .before .before .before .before .before .before .before .before .before .pre .3) (c .before .before .before .before .before .before .before .before .before .before .before .before .before .before .before .pre .4) (c .before .before .before .before .before .before .before .before .before .before .before .before .before .before .before .args .a) (c .before .before .before .before .before .before .before .before .before .before .before .before .before .before .before .args .b) (c .before .before .before .before .before .before .before .before .before .before .before .before .before .before .before .pre .1) (omega (arith, c .before .before .before .before .before .before .before .before .before .before .before .before .if1 .left)) (c .before .before .before .before .before .before .before .from-one .result) (c .before .before .before .before .before .before .before .from-one .ensures) (c .before .before .before .before .join .ensures)
 
 pub step-spec : {M : Type 1} → statement M
 step-spec =
@@ -75,7 +75,7 @@ step-spec =
     slice-read-has
     has-requires
     returns-2
-    target-requires
+    from-one-requires
     join-requires
     same-length-2
     same-length-3

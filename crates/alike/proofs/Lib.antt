@@ -1,2 +1,3 @@
 pub mod KeysLaws
 pub mod RangesLaws
+pub mod SingleLaws

@@ -1,5 +1,5 @@
 -- The laws of specs/Ranges.antt. Assumes nothing.
---     writers-one           a member of writersIn
+--     writers-mem, writers-one     a member of writersIn
 --     matched-length        no mask more
 --     equals-mem            the sets of equal ranges, event by event
 use mathlib.Core.Path.{_≡_, refl, sym, ap, _∙_}
@@ -23,7 +23,7 @@ use Rattle.tables.specs.Tables.{accesses, shapeIn}
 use Rattle.alike.specs.Ranges.{hits, sharing, scWrites, writersIn, asIn, match, spanOf, matchedIn, sideIn, equalsOn, equalsIn, matches}
 
 module _ (t : List ℕ) (n b v : ℕ) where
-  writers-mem : mem (writersIn t n b) v ≡ (ltb v n and scWrites t (2 * v + b))
+  pub writers-mem : mem (writersIn t n b) v ≡ (ltb v n and scWrites t (2 * v + b))
   unfolding writersIn
   writers-mem = mem-picked n (λ (d : ℕ). scWrites t (2 * d + b)) v
 

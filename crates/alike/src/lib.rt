@@ -11,10 +11,12 @@ ghost use Prim.Native.Nat.{ℕ, _*_, _%_, min};
 ghost use lib.Dec.{eqb};
 ghost use lib.ListN.{length, getD, replicate};
 ghost use Rattle.sets.specs.Mask.{slots};
+ghost use Rattle.sets.specs.Tells.{Tells};
 ghost use Rattle.cells.specs.Cells.{placing};
 ghost use Rattle.tables.specs.Tables.{accesses};
 ghost use Rattle.alike.specs.Ranges.{writersIn, match, sideIn, equalsOn};
 ghost use Rattle.alike.specs.steps.Keys.{Keyed, KeysIn};
+ghost use Rattle.alike.specs.steps.Single.{Single};
 
 // A number for the range of an sc access: equal ranges have equal numbers, others have not. 0 for an access that is not sc.
 fn key(a: Shape) -> u32
@@ -71,12 +73,27 @@ fn side(t: &[u8; COLUMNS], keys: &[u32; ACCESSES], n: usize, b: usize, eq: &mut 
     }
 }
 
-// The mask of each slot of the events below n gains the events of these that write sc with its range, where it is sc.
+// Is no second access sc? All slots are looked at, without a jump, so that the machine takes several at once.
+fn single(t: &[u8; COLUMNS]) -> bool
+    ensures { λ r. ⌜ Tells r (Single (now (t .entry)) accesses) ⌝ }
+{
+    let mut c = false;
+    for k in 0..ACCESSES {
+        c = c | ((k % 2 == 1) & access::sc(tables::shape(t, k)));
+    }
+    !c
+}
+
+// The mask of each slot of the events below n gains the events of these that write sc with its range, where it is sc. Mostly no second access is sc,
+// and none is looked for.
 pub fn equals(t: &[u8; COLUMNS], n: usize, eq: &mut [u32])
     ensures { λ _. ⌜ now (eq .exit) ≡ equalsOn (now (t .entry)) (min n slots) (now (eq .entry)) ⌝ }
 {
     let mut by_slot = [0u32; ACCESSES];
     keys(t, n, &mut by_slot);
     side(t, &by_slot, n, 0, eq);
+    if single(t) {
+        return;
+    }
     side(t, &by_slot, n, 1, eq);
 }

@@ -1,1 +1,2 @@
 pub mod ArrangedLaws
+pub mod ListingLaws

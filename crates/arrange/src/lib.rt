@@ -1,13 +1,79 @@
 // The last step over tables, where no rule of 21 to 25 is broken: the bars, the search, and the unsettled pair. The first order, or 26.
 use answer::Answer;
 use answer::Names;
+use bars::LIST;
 use sets::SLOTS;
 use tables::COLUMNS;
 use tables::ROW_CELLS;
-ghost use Rattle.arrange.specs.Arranged.{Arranged};
+ghost use Rattle.orders.specs.Answer.{Answered};
+ghost use Rattle.arrange.specs.Arranged.{barsOf, Arranged};
 
 // How many masks of bars there are: one for each V and W.
 const BARS: usize = SLOTS * SLOTS;
+
+// Whether there is an order, and the first one, by the table of all bars.
+fn by_table(
+    inits: usize,
+    events: usize,
+    rows: usize,
+    t: &[u8; COLUMNS],
+    q: &[u8; ROW_CELLS],
+    succ: &[u32; SLOTS],
+    pred: &[u32; SLOTS],
+    scratch: &mut [u8],
+    order: &mut [u8],
+) -> bool
+    ensures { λ r. ⌜ Answered inits events (now (pred .entry)) (barsOf (now (t .entry)) events (now (succ .entry)) (now (pred .entry)) (now (q .entry)) rows) (now (scratch .entry)) (now (order .entry)) r (now (scratch .exit)) (now (order .exit)) ⌝ }
+{
+    let mut bars = [0u32; BARS];
+    bars::fill(t, events, succ, pred, q, rows, &mut bars);
+    orders::first(inits, events, pred, &bars, scratch, order)
+}
+
+// The same: by a list, where there is room for all that it has to have, which is mostly little.
+fn seek(
+    inits: usize,
+    events: usize,
+    rows: usize,
+    t: &[u8; COLUMNS],
+    q: &[u8; ROW_CELLS],
+    succ: &[u32; SLOTS],
+    pred: &[u32; SLOTS],
+    scratch: &mut [u8],
+    order: &mut [u8],
+) -> bool
+    ensures { λ r. ⌜ Answered inits events (now (pred .entry)) (barsOf (now (t .entry)) events (now (succ .entry)) (now (pred .entry)) (now (q .entry)) rows) (now (scratch .entry)) (now (order .entry)) r (now (scratch .exit)) (now (order .exit)) ⌝ }
+{
+    let mut between = [0u32; LIST];
+    let mut readers = [0u8; LIST];
+    let mut writers = [0u8; LIST];
+    let n = bars::list(
+        inits,
+        t,
+        events,
+        succ,
+        pred,
+        q,
+        rows,
+        &mut between,
+        &mut readers,
+        &mut writers,
+    );
+    if n < LIST {
+        return orders::first_listed(
+            inits,
+            events,
+            pred,
+            &between,
+            &readers,
+            &writers,
+            n,
+            scratch,
+            order,
+        );
+    }
+    by_table(inits, events, rows, t, q, succ, pred, scratch, order)
+}
 
 // The answer on tables of so many inits, events and rows, with happens-before by rows and by columns; the order goes to the front of the order
 // buffer.
@@ -24,9 +90,7 @@ pub fn arrange(
 ) -> Answer
     ensures { λ r. ⌜ Arranged inits events rows (now (t .entry)) (now (q .entry)) (now (succ .entry)) (now (pred .entry)) (now (scratch .entry)) (now (order .entry)) r (now (scratch .exit)) (now (order .exit)) ⌝ }
 {
-    let mut bars = [0u32; BARS];
-    bars::fill(t, events, succ, pred, q, rows, &mut bars);
-    let found = orders::first(inits, events, pred, &bars, scratch, order);
+    let found = seek(inits, events, rows, t, q, succ, pred, scratch, order);
     if !found {
         return Answer::Broken(26, Names::Nobody);
     }

@@ -1,6 +1,8 @@
 -- The laws of specs/Bars.antt. Assumes nothing.
+--     mem-only                              a set that a test lets through
 --     bars-none, bars-more, bars-length     the bars, row by row
 --     mask-mem                              a row's mask has exactly the events that the row bars
+--     bars-back, bars-forth                 what the table has is of a row or was there, and the other way round
 --     bars-holds                            the table has exactly the bars of the rows, besides what it had
 --     filled-holds                          the same of an empty table and the sets of equal ranges
 use mathlib.Core.Path.{_≡_, refl, sym, ap, _∙_, subst}
@@ -53,7 +55,7 @@ module _ (t eq succ pred q : List ℕ) (bars : List ℕ) where
 -- ---- a row's mask, event by event
 
 -- a set that a test lets through
-mem-only : (c : Bool) (m v : ℕ) → mem (cond c m 0) v ≡ (c and mem m v)
+pub mem-only : (c : Bool) (m v : ℕ) → mem (cond c m 0) v ≡ (c and mem m v)
 unfolding _and_
 mem-only true m v = refl
 mem-only false m v = mem-empty v
@@ -106,7 +108,7 @@ module _ (t eq succ pred q : List ℕ) (l : List ℕ) (inside : slots * slots �
   long : (j : ℕ) → slots * slots ≤ length (barsIn t eq succ pred q j l)
   long j = let z = bars-length t eq succ pred q l j in omega arith
 
-  bars-back : (n : ℕ) → Has (getD (barsIn t eq succ pred q n l) place 0) r → Has (getD l place 0) r ⊎ ((j : ℕ) × ((j < n) × (names j ≡ true)))
+  pub bars-back : (n : ℕ) → Has (getD (barsIn t eq succ pred q n l) place 0) r → Has (getD l place 0) r ⊎ ((j : ℕ) × ((j < n) × (names j ≡ true)))
   unfolding barsIn upTo
   bars-back zero h = inl h
   bars-back (suc n) h =
@@ -118,7 +120,7 @@ module _ (t eq succ pred q : List ℕ) (l : List ℕ) (inside : slots * slots �
       (λ g. inr (n, (omega arith, and-holds (eqb (p .reader) r) _ (eq-eqb (p .reader) r (sym rr ∙ g .1 .1)) ∙ and-holds (eqb (p .writer) w) _ (eq-eqb (p .writer) w (sym wr ∙ g .1 .0)) ∙ g .0)))
       (spread-elim (maskIn t eq succ pred p) (p .writer % slots) (p .reader % slots) (barsIn t eq succ pred q n l) (long n) (omega arith) v w r w-slot h)
 
-  bars-forth : (n : ℕ) → Has (getD l place 0) r ⊎ ((j : ℕ) × ((j < n) × (names j ≡ true))) → Has (getD (barsIn t eq succ pred q n l) place 0) r
+  pub bars-forth : (n : ℕ) → Has (getD l place 0) r ⊎ ((j : ℕ) × ((j < n) × (names j ≡ true))) → Has (getD (barsIn t eq succ pred q n l) place 0) r
   unfolding barsIn upTo
   bars-forth zero (inl h) = h
   bars-forth zero (inr h) = absurd (omega (arith, h .1 .0))

@@ -1,12 +1,12 @@
 -- The laws of specs/steps/Linked.antt: a step more, and the closure stays one. Assumes nothing.
---     Changed, changed-.., grew-all, merged-all, beyond-none, beyond-more     loops over places
+--     Changed, changed-.., grew-more, grew-all, merged-all, beyond-none, beyond-more, beyond-picked     loops over places
 --     grew-mem                    what a mask has after
 --     link-on                     a leads to more, and so does all that leads to a
---     link-known                  a step that there is a way for adds nothing
+--     link-known, step-old        a step that there is a way for adds nothing
 --     link-far                    a step from an event that is not counted
 --     linked-turned               the columns
 use mathlib.Core.Path.{_≡_, refl, sym, ap, subst, _∙_}
-use mathlib.Core.Bool.{Bool, true, false, cond, _||_}
+use mathlib.Core.Bool.{Bool, true, false, cond}
 use mathlib.Core.List.{List}
 use mathlib.Core.Logic.{_⊎_, inl, inr, ⊎-elim, _↔_}
 use Prim.Native.Nat.{ℕ, _+_, _-_, _%_, _^_, _<_, _≤_}
@@ -17,16 +17,16 @@ use borrow.Author.Tests.{lt-ltb, ltb-true}
 use lib.Bits.{bitOr}
 use lib.Dec.{eqb, ltb}
 use lib.ListN.{length, getD, set, drop, length-set, length-drop}
-use lib.Seq.{getD-set-same, getD-set-other, getD-drop, ext-getD}
+use lib.Seq.{getD-set-same, getD-set-other, set-getD, getD-drop, ext-getD}
 use Rattle.basis.specs.Test.{_and_, _or_}
 use Rattle.basis.proofs.BoolLaws.{bar-or, or-holds, or-second, or-either, not-both-ways, false-of, and-holds, and-both, bool-ext}
 use Rattle.sets.specs.Mask.{slots, mem, Has, insert}
-use Rattle.sets.proofs.MaskLaws.{mem-or, mem-empty, mem-beyond, insert-new, insert-old, insert-cases, ext-all}
-use Rattle.closing.specs.Closure.{taken, Reach, step, more, Closed}
+use Rattle.sets.proofs.MaskLaws.{mem-or, mem-empty, mem-beyond, insert-in, insert-new, insert-old, insert-cases, ext-all}
+use Rattle.closing.specs.Closure.{taken, Reach, step, more}
 use Rattle.closing.proofs.ClosureLaws.{reach-trans}
 use Rattle.cells.specs.Walk.{upTo, picked}
 use Rattle.cells.specs.Cells.{gaining}
-use Rattle.cells.proofs.WalkLaws.{upTo-more}
+use Rattle.cells.proofs.WalkLaws.{upTo-more, mem-picked}
 use Rattle.tables.specs.Tables.{agentIn}
 use Rattle.own.specs.Own.{metIn}
 use Rattle.cells.proofs.CellsLaws.{gaining-length}
@@ -88,6 +88,12 @@ changed-more f i l l′ y h q c =
 abbrev pub grewAt : ℕ → ℕ → List ℕ → ℕ → ℕ
 grewAt m x l e = cond (mem m e) (bitOr (getD l e 0) x) (getD l e 0)
 
+pub grew-more : (m x e : ℕ) (l l′ : List ℕ) (b : Bool) (y : ℕ) → e < slots → length l ≡ slots → b ≡ mem m (e % slots) → y ≡ cond b (bitOr (getD l′ e 0) x) (getD l′ e 0)
+    → Changed (grewAt m x l) e l l′ → Changed (grewAt m x l) (e + 1) l (set l′ e y)
+grew-more m x e l l′ b y h long is-b is-y c =
+    let same = c .left e (omega arith) in
+    changed-more (grewAt m x l) e l l′ y (omega (arith, h, long)) (is-y ∙ (λ i. cond ((is-b ∙ ap (mem m) (mod-eq-of-lt h)) i) (bitOr (same i) x) (same i))) c
+
 pub grew-all : (m x w : ℕ) (l l′ : List ℕ) → m < 2 ^ w → Changed (grewAt m x l) w l l′ → Grew m x l l′
 grew-all m x w l l′ h c = record { size = c .size; each = λ e b. go e (decLt e w) }
   where
@@ -129,6 +135,19 @@ beyond-more n succ x d b = record { has = λ v. go v (mem x n) refl }
           λ q. subst (λ (z : ℕ). Has z v) (sym is)
               (⊎-elim (λ y. b .has v .1 (inl y)) (λ y. ⊎-elim (λ z. b .has v .1 (inr z)) (λ z. absurd (not-both-ways (z .0) h)) (last v (y .0) (y .1) (y .2) (y .3) (ℕ-discrete (y .0) n))) q),
         )
+
+-- what lies below n alone is looked at
+pub beyond-picked : (n : ℕ) (f : ℕ → Bool) (succ : List ℕ) (d : ℕ) → n ≤ slots → Beyond slots succ (picked n f) d → Beyond n succ (picked n f) d
+beyond-picked n f succ d few b =
+    record {
+      has = λ v. (
+        λ q. ⊎-elim inl (λ y. inr (y .0, low (y .0) (y .2), y .2, y .3)) (b .has v .0 q),
+        λ q. b .has v .1 (⊎-elim inl (λ y. inr (y .0, (let z = y .1 in omega (arith, z, few)), y .2, y .3)) q),
+      );
+    }
+  where
+    low : (m : ℕ) → Has (picked n f) m → m < n
+    low m h = ltb-true m n (and-both (ltb m n) (f m) (sym (mem-picked n f m) ∙ h) .0)
 
 -- ---- the steps with more from a
 
@@ -408,6 +427,18 @@ module _ (n : ℕ) (few : n ≤ slots) (succ cols : List ℕ) (size : length suc
 
     pub step-known : a < n → Has (getD succ a 0) b → Linking n (λ (l : List ℕ). gaining l a b) succ cols succ cols
     step-known here way = record { size = size; width = width; adds = λ l k. link-known few k a b here way (edge-gaining l a b (let z = k .closed .size in omega arith)) }
+
+    -- the same of any event: from n on the rows are the steps
+    pub step-old : Has (getD succ a 0) b → Linking n (λ (l : List ℕ). gaining l a b) succ cols succ cols
+    unfolding gaining
+    step-old way = go (decLt a n)
+      where
+        same : gaining succ a b ≡ succ
+        same = ap (set succ a) (insert-in (getD succ a 0) b way) ∙ set-getD succ a 0
+
+        go : Dec (a < n) → Linking n (λ (l : List ℕ). gaining l a b) succ cols succ cols
+        go (yes h) = step-known h way
+        go (no h) = record { size = size; width = width; adds = λ l k. subst (λ (x : List ℕ). Linked n (gaining l a b) x cols) same (link-far few k a b (omega (arith, h)) slot) }
 
     pub step-new : a < n → (d : ℕ) → Beyond n succ (insert 0 b) d → {succ′ cols′ : List ℕ} → Joined a d succ cols succ′ cols′ → Linking n (λ (l : List ℕ). gaining l a b) succ cols succ′ cols′
     step-new here d y j =

@@ -5,17 +5,15 @@
 use mathlib.Core.Path.{_≡_, refl, sym, ap, subst, _∙_}
 use mathlib.Core.Bool.{Bool, true, false, cond, _||_}
 use mathlib.Core.List.{List}
-use mathlib.Core.Logic.{_⊎_, inl, inr, ⊎-elim, _↔_}
-use Prim.Native.Nat.{ℕ, zero, suc, _+_, _<_, _≤_}
+use Prim.Native.Nat.{ℕ, zero, suc, _<_, _≤_}
 use native.Mathlib.Omega.{arith}
 use native.Mathlib.Decide.{ℕ-discrete, decLt}
-use borrow.Author.Tests.{lt-ltb, le-ltb, ltb-true, eq-eqb, eqb-true}
+use borrow.Author.Tests.{lt-ltb, ltb-true, eq-eqb, eqb-true}
 use lib.Bits.{bitOr}
 use lib.Dec.{eqb, ltb}
 use lib.ListN.{length, getD, set, replicate, length-set, length-replicate, getD-replicate}
 use lib.Seq.{getD-set-same, getD-set-other, ext-getD}
-use Rattle.basis.specs.Test.{_and_}
-use Rattle.basis.proofs.BoolLaws.{and-holds, and-both, by-bool, not-both-ways, false-of}
+use Rattle.basis.proofs.BoolLaws.{and-holds, and-both, by-bool, not-both-ways}
 use Rattle.sets.specs.Mask.{slots, mem, Has}
 use Rattle.sets.proofs.MaskLaws.{mem-or, mem-empty, ext-all}
 use Rattle.closing.specs.Closure.{taken, Reach, step, more, Closed}

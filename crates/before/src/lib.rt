@@ -1,5 +1,6 @@
 // Happens-before over the tables: succ[e] is the mask of the events that e happens before, pred[d] of those that happen before d. Both grow a step at
 // a time, and are closed after each. The public function has no `requires`.
+use cells::take;
 use format::Row;
 use sets::SLOTS;
 use sets::least;
@@ -15,10 +16,14 @@ ghost use Prim.Native.Nat.{ℕ, _<_, _≤_, min};
 ghost use lib.Bits.{bitOr};
 ghost use lib.ListN.{length};
 ghost use Rattle.sets.specs.Mask.{slots, insert};
+ghost use Rattle.sets.specs.Tells.{Tells};
+ghost use Rattle.cells.specs.Walk.{picked};
 ghost use Rattle.cells.specs.Cells.{gaining};
 ghost use Rattle.tables.specs.Tables.{rowRoom, pairRoom};
+ghost use Rattle.own.specs.Own.{metIn};
+ghost use Rattle.own.specs.Lone.{Lone};
 ghost use Rattle.before.specs.Before.{syncIn, syncGains, rowStepsIn, pairStepsIn, ClosedSteps};
-ghost use Rattle.before.specs.steps.Linked.{Wide, Grew, Joined, Beyond, Merged, initAt, initsIn, Linking};
+ghost use Rattle.before.specs.steps.Linked.{Grew, Joined, Beyond, Merged, initAt, initsIn, Linking};
 
 // ---- which rows make a step
 
@@ -33,17 +38,54 @@ fn syncs(t: &[u8; COLUMNS], r: Row) -> bool
     ranges::both_sc(w, tables::at(t, r.reader as usize, r.address))
 }
 
-// ---- a step more, and what follows
-
-// A number of places, in whole eights, below which the members of a set lie.
-fn wide(m: u32) -> usize
-    ensures { λ r. ⌜ Wide m r ⌝ }
+// The same where no event has a second access. Without a jump: which rows synchronise is hard to foresee.
+fn syncs_first(t: &[u8; COLUMNS], r: Row) -> bool
+    requires { ⌜ Lone (now t) slots ⌝ }
+    ensures { λ b. ⌜ b ≡ syncIn (now (t .entry)) r ⌝ }
 {
-    if m < 65536 {
-        return if m < 256 { 8 } else { 16 };
-    }
-    if m < 16777216 { 24 } else { SLOTS }
+    let a = tables::shape(t, 2 * (r.writer as usize % SLOTS));
+    let b = tables::shape(t, 2 * (r.reader as usize % SLOTS));
+    ranges::both_sc(a, b) & ranges::covers(a, r.address)
 }
+
+// The same, by a flag: `lone` tells whether no event has a second access, and so below.
+fn row_syncs(lone: bool, t: &[u8; COLUMNS], r: Row) -> bool
+    requires { ⌜ Tells lone (Lone (now t) slots) ⌝ }
+    ensures { λ b. ⌜ b ≡ syncIn (now (t .entry)) r ⌝ }
+{
+    if lone {
+        return syncs_first(t, r);
+    }
+    syncs(t, r)
+}
+
+// ---- what an event meets
+
+// The other events below n that e meets, where no event has a second access.
+fn met_first(t: &[u8; COLUMNS], n: usize, e: usize) -> u32
+    requires { ⌜ (n ≤ slots) × (e < slots) × Lone (now t) slots ⌝ }
+    ensures { λ r. ⌜ r ≡ picked n (metIn (now (t .entry)) e) ⌝ }
+{
+    let a = tables::shape(t, 2 * e);
+    let mut s = 0;
+    for d in 0..n {
+        s = take(s, d, ranges::overlap(a, tables::shape(t, 2 * d)));
+    }
+    sets::without(s, e)
+}
+
+// The same, by the flag.
+fn met(lone: bool, t: &[u8; COLUMNS], n: usize, e: usize) -> u32
+    requires { ⌜ (n ≤ slots) × (e < slots) × Tells lone (Lone (now t) slots) ⌝ }
+    ensures { λ r. ⌜ r ≡ picked n (metIn (now (t .entry)) e) ⌝ }
+{
+    if lone {
+        return met_first(t, n, e);
+    }
+    own::met(t, n, e)
+}
+
+// ---- a step more, and what follows
 
 // The set y, with x where a test passed.
 fn gained(y: u32, test: bool, x: u32) -> u32
@@ -52,13 +94,19 @@ fn gained(y: u32, test: bool, x: u32) -> u32
     if test { y | x } else { y }
 }
 
-// The masks at the members of the set m gain x. All places below the widest are looked at, without a jump, so that the machine takes several at once.
+// The masks at the members of the set m gain x. All places are looked at, or the first 24 where the members lie below, without a jump and by a fixed
+// number, so that the machine takes several at once.
 fn grow(masks: &mut [u32], m: u32, x: u32)
     requires { ⌜ length (now masks) ≡ slots ⌝ }
     ensures { λ _. ⌜ Grew m x (now (masks .entry)) (now (masks .exit)) ⌝ }
 {
-    let w = wide(m);
-    for e in 0..w {
+    if m < 16777216 {
+        for e in 0..24usize {
+            masks[e] = gained(masks[e], sets::has(m, e), x);
+        }
+        return;
+    }
+    for e in 0..SLOTS {
         masks[e] = gained(masks[e], sets::has(m, e), x);
     }
 }
@@ -73,19 +121,19 @@ fn join(a: usize, d: u32, succ: &mut [u32], cols: &mut [u32])
     grow(cols, d, u);
 }
 
-// The members of x, and what those below n lead to.
-fn beyond(n: usize, x: u32, succ: &[u32]) -> u32
-    requires { ⌜ (n ≤ slots) × (length (now succ) ≡ slots) ⌝ }
-    ensures { λ r. ⌜ Beyond n (now (succ .entry)) x r ⌝ }
+// The members of x, and what they lead to. All places are looked at, as above.
+fn beyond(x: u32, succ: &[u32]) -> u32
+    requires { ⌜ length (now succ) ≡ slots ⌝ }
+    ensures { λ r. ⌜ Beyond slots (now (succ .entry)) x r ⌝ }
 {
     let mut d = x;
-    for e in 0..n {
+    for e in 0..SLOTS {
         d = gained(d, sets::has(x, e), succ[e]);
     }
     d
 }
 
-// The same of b alone.
+// The same of b alone; what it leads to counts where it lies below n.
 fn from_one(n: usize, b: usize, succ: &[u32]) -> u32
     requires { ⌜ (b < slots) × (length (now succ) ≡ slots) ⌝ }
     ensures { λ r. ⌜ Beyond n (now (succ .entry)) (insert 0 b) r ⌝ }
@@ -115,47 +163,44 @@ fn step(n: usize, a: usize, b: usize, succ: &mut [u32], cols: &mut [u32])
 // ---- what inits, rows and pairs add
 
 // An init leads to what it meets.
-fn add_init(t: &[u8; COLUMNS], n: usize, e: usize, succ: &mut [u32], cols: &mut [u32])
-    requires { ⌜ (n ≤ slots) × (e < n) × (length (now succ) ≡ slots) × (length (now cols) ≡ slots) ⌝ }
+fn add_init(lone: bool, t: &[u8; COLUMNS], n: usize, e: usize, succ: &mut [u32], cols: &mut [u32])
+    requires { ⌜ (n ≤ slots) × (e < n) × (length (now succ) ≡ slots) × (length (now cols) ≡ slots) × Tells lone (Lone (now t) slots) ⌝ }
     ensures { λ _. ⌜ Linking n (initAt (now (t .entry)) n e) (now (succ .entry)) (now (cols .entry)) (now (succ .exit)) (now (cols .exit)) ⌝ }
 {
     let init = tables::agent(t, e) == 0;
     if !init {
         return;
     }
-    let d = beyond(n, own::met(t, n, e), succ);
+    let d = beyond(met(lone, t, n, e), succ);
     join(e, d, succ, cols);
 }
 
-fn add_inits(t: &[u8; COLUMNS], n: usize, succ: &mut [u32], cols: &mut [u32])
-    requires { ⌜ (n ≤ slots) × (length (now succ) ≡ slots) × (length (now cols) ≡ slots) ⌝ }
+fn add_inits(lone: bool, t: &[u8; COLUMNS], n: usize, succ: &mut [u32], cols: &mut [u32])
+    requires { ⌜ (n ≤ slots) × (length (now succ) ≡ slots) × (length (now cols) ≡ slots) × Tells lone (Lone (now t) slots) ⌝ }
     ensures { λ _. ⌜ Linking n (initsIn (now (t .entry)) n n) (now (succ .entry)) (now (cols .entry)) (now (succ .exit)) (now (cols .exit)) ⌝ }
 {
     for e in 0..n {
-        add_init(t, n, e, succ, cols);
+        add_init(lone, t, n, e, succ, cols);
     }
 }
 
-// The row's writer leads to its reader, where the two synchronise.
-fn add_row(t: &[u8; COLUMNS], n: usize, r: Row, succ: &mut [u32], cols: &mut [u32])
-    requires { ⌜ (n ≤ slots) × (length (now succ) ≡ slots) × (length (now cols) ≡ slots) ⌝ }
+// The row's writer leads to its reader, where the two synchronise. One jump for all that adds nothing: a step that there is a way for does not.
+fn add_row(lone: bool, t: &[u8; COLUMNS], n: usize, r: Row, succ: &mut [u32], cols: &mut [u32])
+    requires { ⌜ (n ≤ slots) × (length (now succ) ≡ slots) × (length (now cols) ≡ slots) × Tells lone (Lone (now t) slots) ⌝ }
     ensures { λ _. ⌜ Linking n (syncGains (now (t .entry)) r) (now (succ .entry)) (now (cols .entry)) (now (succ .exit)) (now (cols .exit)) ⌝ }
 {
-    let meet = syncs(t, r);
-    if !meet {
+    let a = r.writer as usize % SLOTS;
+    let b = r.reader as usize % SLOTS;
+    let adds = row_syncs(lone, t, r) & !sets::has(succ[a], b);
+    if !adds {
         return;
     }
-    step(
-        n,
-        r.writer as usize % SLOTS,
-        r.reader as usize % SLOTS,
-        succ,
-        cols,
-    );
+    step(n, a, b, succ, cols);
 }
 
-// The steps of the first m rows; m counts up to the rows that have a place.
+// The steps of the first rows; they count up to the rows that have a place.
 fn add_rows(
+    lone: bool,
     t: &[u8; COLUMNS],
     n: usize,
     q: &[u8; ROW_CELLS],
@@ -163,12 +208,12 @@ fn add_rows(
     succ: &mut [u32],
     cols: &mut [u32],
 )
-    requires { ⌜ (n ≤ slots) × (length (now succ) ≡ slots) × (length (now cols) ≡ slots) ⌝ }
+    requires { ⌜ (n ≤ slots) × (length (now succ) ≡ slots) × (length (now cols) ≡ slots) × Tells lone (Lone (now t) slots) ⌝ }
     ensures { λ _. ⌜ Linking n (rowStepsIn (now (t .entry)) (now (q .entry)) (min rows rowRoom)) (now (succ .entry)) (now (cols .entry)) (now (succ .exit)) (now (cols .exit)) ⌝ }
 {
     let m = least(rows, ROWS);
     for j in 0..m {
-        add_row(t, n, rows::row(q, j), succ, cols);
+        add_row(lone, t, n, rows::row(q, j), succ, cols);
     }
 }
 
@@ -216,10 +261,11 @@ pub fn fill(
     ensures { λ _. ⌜ ClosedSteps (now (t .entry)) (min events slots) (now (q .entry)) (min rows rowRoom) (now (p .entry)) (min pairs pairRoom) (now (succ .entry)) (now (succ .exit)) (now (pred .entry)) (now (pred .exit)) ⌝ }
 {
     let n = least(events, SLOTS);
+    let lone = own::lone(t);
     let mut cols = [0u32; SLOTS];
     own::laters(t, n, succ, &mut cols);
-    add_inits(t, n, succ, &mut cols);
-    add_rows(t, n, q, rows, succ, &mut cols);
+    add_inits(lone, t, n, succ, &mut cols);
+    add_rows(lone, t, n, q, rows, succ, &mut cols);
     add_pairs(n, p, pairs, succ, &mut cols);
     merge(pred, &cols);
 }

@@ -1,5 +1,6 @@
 -- The laws of specs/Closure.antt: the closure of rows of successors, pivot by pivot. Assumes nothing.
 --     reach-trans                        a way after a way
+--     grown-pivot grown-same             one pivot; rows that are the same
 --     stage-none stage-next stage-all    what holds once every pivot is done but those that are left, two and two; with none left it is the closure
 --     closed-square                      rows of n events stay rows of n events
 --     closed-unique        there is one closure
@@ -80,7 +81,7 @@ module _ {n left : ℕ} {r₀ : List ℕ} {f : ℕ → ℕ} (k : ℕ) (kn : k < 
           through-old p l
           (false-of (mem left p) (λ t. ⊎-elim (λ q. f q) (λ r. not-both-ways r o) (remove-cases left k p t))) e d en a b
 
-  grown-pivot : Grown n (remove left k) r₀ g
+  pub grown-pivot : Grown n (remove left k) r₀ g
   grown-pivot = record {
     keeps = λ e d l h. old e d (G .keeps e d l h);
     sound = λ e d l h. ⊎-elim (λ a. G .sound e d l a) (λ b. reach-trans (G .sound e k l (b .0)) kn (G .sound k d kn (b .1))) (cases e d h);
@@ -88,7 +89,7 @@ module _ {n left : ℕ} {r₀ : List ℕ} {f : ℕ → ℕ} (k : ℕ) (kn : k < 
   }
 
 -- rows that are the same below n
-grown-same : {n left : ℕ} {r₀ : List ℕ} {f h : ℕ → ℕ} → ((e : ℕ) → e < n → h e ≡ f e) → Grown n left r₀ f → Grown n left r₀ h
+pub grown-same : {n left : ℕ} {r₀ : List ℕ} {f h : ℕ → ℕ} → ((e : ℕ) → e < n → h e ≡ f e) → Grown n left r₀ f → Grown n left r₀ h
 grown-same q G = record {
   keeps = λ e d l t. ap (λ (s : ℕ). mem s d) (q e l) ∙ G .keeps e d l t;
   sound = λ e d l t. G .sound e d l (sym (ap (λ (s : ℕ). mem s d) (q e l)) ∙ t);

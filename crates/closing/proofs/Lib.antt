@@ -1,3 +1,4 @@
 pub mod SweepLaws
 pub mod ClosureLaws
 pub mod TriplesLaws
+pub mod ExistsLaws

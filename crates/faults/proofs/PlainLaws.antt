@@ -1,18 +1,18 @@
 -- Fields that pass every test, from the tests of the code. Assumes nothing.
---     head-plain               a head
---     init-plain               an init
---     other-plain              an event that is no init, by edition 2's layout and, there, its tear byte
+--     head-told                a head; as the code tests it: head-same, head-not, head-all
+--     init-told                an init; as the code tests it: init-short, init-later, init-not, init-all
+--     other-told               an event that is no init, by edition 2's layout and, there, its tear byte; as the code tests it: other-short, other-torn, other-all
 use Prim.Native.Nat.{ℕ, _+_, _-_, _≤_, _<_}
 use mathlib.Core.Path.{_≡_, refl, sym, ap, _∙_, subst}
-use mathlib.Core.Bool.{Bool, true, false, cond}
+use mathlib.Core.Bool.{Bool, true, false, cond, not, _&&_}
 use mathlib.Core.List.{List}
 use mathlib.Core.Logic.{_⊎_, inl, inr}
 use native.Mathlib.Omega.{arith}
-use borrow.Author.Tests.{eqb-true, eq-eqb, ne-eqb, le-ltb, lt-ltb, leb-true, ltb-true}
+use borrow.Author.Tests.{eqb-true, eq-eqb, ne-eqb, le-ltb, lt-ltb, leb-true, ltb-true, ltb-false, le-leb, lt-leb, not-true, not-false}
 use lib.Dec.{eqb, ltb, leb}
 use lib.ListN.{length, length-take, length-drop}
 use Rattle.basis.specs.Test.{_and_, _or_}
-use Rattle.basis.proofs.BoolLaws.{and-both, or-either, both-hold, or-holds, non-holds}
+use Rattle.basis.proofs.BoolLaws.{and-both, and-holds, and-fails, or-either, both-hold, or-holds, non-holds}
 use Rattle.format.specs.declared.Shape.{Shape}
 use Rattle.format.specs.Shape.{tearOf, initial, sc}
 use Rattle.format.specs.Limits.{maxInits, maxOthers}
@@ -25,14 +25,14 @@ use Rattle.parse.specs.Parse.{allowed, headFault, eventFaultBy, valueFaultBy, f
 use Rattle.parse.proofs.FormedLaws.{passed, passed-non}
 use Rattle.entries.specs.declared.Counts.{Counts}
 use Rattle.entries.specs.Entries.{eventsIn}
-use Rattle.faults.specs.Faults.{roomBy, PlainHead, PlainEvent}
+use Rattle.faults.specs.Faults.{roomBy, frontBytes, PlainHead, PlainEvent, headTest, endsTest, initTest, otherTest, HeadTold, InitTold, OtherTold}
 
 -- a value that ends within the sheet is as long as its field says
 value-long : (s : List ℕ) (p : ℕ) → nextAt s p ≤ length s → length (valueAt s p) ≡ lengthAt s p
 unfolding valueAt
 value-long s p h = simp (length-take, length-drop) (omega arith)
 
-pub head-plain : (s : List ℕ) → nextAt s 0 ≤ length s → tagAt s 0 ≡ 1 → headFault (valueAt s 0) ≡ 0 → PlainHead s
+head-plain : (s : List ℕ) → nextAt s 0 ≤ length s → tagAt s 0 ≡ 1 → headFault (valueAt s 0) ≡ 0 → PlainHead s
 unfolding faultBy valueFaultBy allowed
 head-plain s h e f =
     record {
@@ -70,11 +70,12 @@ module _ (s : List ℕ) (p : ℕ) (x : Counts) (at : List ℕ) (reach : nextAt s
     unfolding valueAt
     same-agent = let l = event-low ed in agent-front ed (restAt s p) (lengthAt s p) (omega arith)
 
-    event-plain : tagAt s p ≡ 2 → eventFits (x .head) (eventsIn s x at) (agentOf (restAt s p)) a ≡ true → roomBy x (agentOf (restAt s p)) ≡ true
+    event-plain : p + frontBytes ≤ length s → tagAt s p ≡ 2 → eventFits (x .head) (eventsIn s x at) (agentOf (restAt s p)) a ≡ true → roomBy x (agentOf (restAt s p)) ≡ true
         → PlainEvent s p x at (eqb (agentOf (restAt s p)) 0)
     unfolding faultBy valueFaultBy eventFaultBy allowed
-    event-plain e fits room =
+    event-plain front e fits room =
         record {
+          front = front;
           tag = e;
           agent = ap (λ (n : ℕ). eqb n 0) same-agent;
           clean = λ last w. passed _ _ _ (le-ltb (length s) (p + 3) (omega arith)) (passed-non _ _ _ (simp (e, w)) (passed _ _ _ (le-ltb (length s) (nextAt s p) reach) (simp e value)));
@@ -132,16 +133,16 @@ module _ (s : List ℕ) (p : ℕ) (x : Counts) (at : List ℕ) (reach : nextAt s
   init-room e h = rw e (lt-ltb _ _ h)
 
 -- from the tests of the code
-module _ (s : List ℕ) (p : ℕ) (x : Counts) (at : List ℕ) (e : eqb (tagAt s p) 2 ≡ true) where
-  pub init-plain : (eqb (lengthAt s p) (eventBytes (x .head .edition) + dataBytes (shapeOf (x .head .edition) (restAt s p))) and leb (nextAt s p) (length s)) ≡ true
+module _ (s : List ℕ) (p : ℕ) (x : Counts) (at : List ℕ) (front : p + frontBytes ≤ length s) (e : eqb (tagAt s p) 2 ≡ true) where
+  init-plain : (eqb (lengthAt s p) (eventBytes (x .head .edition) + dataBytes (shapeOf (x .head .edition) (restAt s p))) and leb (nextAt s p) (length s)) ≡ true
       → eqb (agentOf (restAt s p)) 0 ≡ true → ltb (x .inits) maxInits ≡ true
       → eventFits (x .head) (eventsIn s x at) (agentOf (restAt s p)) (shapeOf (x .head .edition) (restAt s p)) ≡ true → PlainEvent s p x at true
   init-plain h g r f =
       let v = and-both (eqb (lengthAt s p) (eventBytes (x .head .edition) + dataBytes (shapeOf (x .head .edition) (restAt s p)))) _ h in
       let l = leb-true (nextAt s p) (length s) (v .1) in
-      subst (PlainEvent s p x at) g (event-plain s p x at l (eqb-true _ _ (v .0)) (eqb-true _ _ e) f (init-room s p x at l g (ltb-true _ _ r)))
+      subst (PlainEvent s p x at) g (event-plain s p x at l (eqb-true _ _ (v .0)) front (eqb-true _ _ e) f (init-room s p x at l g (ltb-true _ _ r)))
 
-  pub other-plain : (eqb (lengthAt s p) (eventBytes (x .head .edition) + dataBytes (shapeOf 2 (restAt s p))) and leb (nextAt s p) (length s)) ≡ true
+  other-plain : (eqb (lengthAt s p) (eventBytes (x .head .edition) + dataBytes (shapeOf 2 (restAt s p))) and leb (nextAt s p) (length s)) ≡ true
       → (inside (x .head .size) (shapeOf 2 (restAt s p)) and ((eqb (shapeOf 2 (restAt s p) .mode) 1 or eqb (shapeOf 2 (restAt s p) .mode) 2) and otherFormed (x .head .agents) (agentOf (restAt s p)) (shapeOf 2 (restAt s p)))) ≡ true
       → cond (eqb (x .head .edition) 2) (tearFits (shapeOf 2 (restAt s p))) true ≡ true → ltb (x .events) (x .inits + maxOthers) ≡ true → PlainEvent s p x at false
   unfolding dataBytes
@@ -149,4 +150,138 @@ module _ (s : List ℕ) (p : ℕ) (x : Counts) (at : List ℕ) (e : eqb (tagAt s
       let v = and-both (eqb (lengthAt s p) (eventBytes (x .head .edition) + dataBytes (shapeOf 2 (restAt s p)))) _ h in
       let l = leb-true (nextAt s p) (length s) (v .1) in
       let g = other-agent s p x at l o in
-      subst (PlainEvent s p x at) g (event-plain s p x at l (eqb-true _ _ (v .0)) (eqb-true _ _ e) (other-fits s p x at l o t) (other-room s p x at l g (ltb-true _ _ r)))
+      subst (PlainEvent s p x at) g (event-plain s p x at l (eqb-true _ _ (v .0)) front (eqb-true _ _ e) (other-fits s p x at l o t) (other-room s p x at l g (ltb-true _ _ r)))
+
+-- ---- from the tests
+
+head-told : (s : List ℕ) (r : Bool) → r ≡ headTest s → HeadTold s r
+unfolding headTest
+head-told s r e =
+    record {
+      is = e;
+      clean = λ h.
+          let v = and-both ((leb 3 (length s) and leb (nextAt s 0) (length s)) and eqb (tagAt s 0) 1) (eqb (headFault (valueAt s 0)) 0) (sym e ∙ h) in
+          let w = and-both (leb 3 (length s) and leb (nextAt s 0) (length s)) (eqb (tagAt s 0) 1) (v .0) in
+          let u = and-both (leb 3 (length s)) (leb (nextAt s 0) (length s)) (w .0) in
+          head-plain s (leb-true _ _ (u .1)) (eqb-true _ _ (w .1)) (eqb-true _ _ (v .1));
+    }
+
+init-told : (s : List ℕ) (p : ℕ) (x : Counts) (at : List ℕ) (r : Bool) → r ≡ initTest s p x at → InitTold s p x at r
+unfolding initTest
+init-told s p x at r e =
+    record {
+      is = e;
+      clean = λ h.
+          let a = shapeOf (x .head .edition) (restAt s p) in
+          let g = agentOf (restAt s p) in
+          let v = and-both (leb (p + frontBytes) (length s)) _ (sym e ∙ h) in
+          let u = and-both (initial a) _ (v .1) in
+          let w = and-both ((eqb (tagAt s p) 2 and endsTest s p (x .head .edition) a) and (eqb g 0 and ltb (x .inits) maxInits)) _ (u .1) in
+          let y = and-both (eqb (tagAt s p) 2 and endsTest s p (x .head .edition) a) (eqb g 0 and ltb (x .inits) maxInits) (w .0) in
+          let t = and-both (eqb (tagAt s p) 2) (endsTest s p (x .head .edition) a) (y .0) in
+          let m = and-both (eqb g 0) (ltb (x .inits) maxInits) (y .1) in
+          init-plain s p x at (leb-true _ _ (v .0)) (t .0) (t .1) (m .0) (m .1) (w .1);
+    }
+
+other-told : (s : List ℕ) (p : ℕ) (x : Counts) (r : Bool) → r ≡ otherTest s p x → OtherTold s p x r
+unfolding otherTest
+other-told s p x r e =
+    record {
+      is = e;
+      clean = λ h at.
+          let b = shapeOf 2 (restAt s p) in
+          let v = and-both (leb (p + frontBytes) (length s)) _ (sym e ∙ h) in
+          let u = and-both (cond (eqb (x .head .edition) 2) (tearFits b) true) _ (v .1) in
+          let w = and-both (eqb (tagAt s p) 2 and endsTest s p (x .head .edition) b) _ (u .1) in
+          let t = and-both (eqb (tagAt s p) 2) (endsTest s p (x .head .edition) b) (w .0) in
+          let m = and-both (inside (x .head .size) b and ((eqb (b .mode) 1 or eqb (b .mode) 2) and otherFormed (x .head .agents) (agentOf (restAt s p)) b)) (ltb (x .events) (x .inits + maxOthers)) (w .1) in
+          other-plain s p x at (leb-true _ _ (v .0)) (t .0) (t .1) (m .0) (u .0) (m .1);
+    }
+
+-- ---- the tests as the code makes them, up to one that fails, or all
+
+-- a place within the sheet, by the code's test that it is beyond
+in-sheet : (n p : ℕ) → ltb n p ≡ false → leb p n ≡ true
+in-sheet n p h = le-leb p n (ltb-false n p h)
+
+not-in : (n p : ℕ) → ltb n p ≡ true → leb p n ≡ false
+not-in n p h = lt-leb p n (ltb-true n p h)
+
+pub head-same : (s : List ℕ) (n t : ℕ) → n ≡ lengthAt s 0 → t ≡ tagAt s 0
+    → ((leb 3 (length s) && leb (3 + n) (length s)) && eqb t 1) ≡ ((leb 3 (length s) and leb (nextAt s 0) (length s)) and eqb (tagAt s 0) 1)
+unfolding _and_
+head-same s n t e f = rw (e, f) refl
+
+module _ (s : List ℕ) (b : Bool) (e : b ≡ ((leb 3 (length s) and leb (nextAt s 0) (length s)) and eqb (tagAt s 0) 1)) where
+  pub head-not : not b ≡ true → HeadTold s false
+  unfolding headTest
+  head-not h = head-told s false (sym (and-fails _ _ (sym e ∙ not-true b h)))
+
+  pub head-all : not b ≡ false → (n : ℕ) → n ≡ headFault (valueAt s 0) → HeadTold s (eqb n 0)
+  unfolding headTest
+  head-all h n f = head-told s (eqb n 0) (ap (λ (m : ℕ). eqb m 0) f ∙ sym (and-holds _ _ (sym e ∙ not-false b h)))
+
+module _ (s : List ℕ) (p : ℕ) (x : Counts) (at : List ℕ) where
+  pub init-short : ltb (length s) (p + frontBytes) ≡ true → InitTold s p x at false
+  unfolding initTest
+  init-short h = init-told s p x at false (sym (and-fails _ _ (not-in (length s) (p + frontBytes) h)))
+
+  module _ (l : ltb (length s) (p + frontBytes) ≡ false) (a : Shape) (ea : a ≡ shapeOf (x .head .edition) (restAt s p)) (f : Bool) (ef : f ≡ initial a) where
+    first : f ≡ initial (shapeOf (x .head .edition) (restAt s p))
+    first = ef ∙ ap initial ea
+
+    pub init-later : not f ≡ true → InitTold s p x at false
+    unfolding initTest
+    init-later h =
+        init-told s p x at false (sym (and-holds _ _ (in-sheet (length s) (p + frontBytes) l) ∙ and-fails _ _ (sym first ∙ not-true f h)))
+
+    module _ (h : not f ≡ false) (g t : ℕ) (eg : g ≡ agentOf (restAt s p)) (et : t ≡ tagAt s p) (c : Bool) (ec : c ≡ endsTest s p (x .head .edition) a) where
+      same : ((eqb t 2 && c) && (eqb g 0 && ltb (x .inits) maxInits))
+          ≡ ((eqb (tagAt s p) 2 and endsTest s p (x .head .edition) (shapeOf (x .head .edition) (restAt s p))) and (eqb (agentOf (restAt s p)) 0 and ltb (x .inits) maxInits))
+      unfolding _and_
+      same = rw (et, ec, eg, ea) refl
+
+      pub init-not : not ((eqb t 2 && c) && (eqb g 0 && ltb (x .inits) maxInits)) ≡ true → InitTold s p x at false
+      unfolding initTest
+      init-not n =
+          init-told s p x at false
+          (sym (and-holds _ _ (in-sheet (length s) (p + frontBytes) l) ∙ and-holds _ _ (sym first ∙ not-false f h) ∙ and-fails _ _ (sym same ∙ not-true _ n)))
+
+      pub init-all : not ((eqb t 2 && c) && (eqb g 0 && ltb (x .inits) maxInits)) ≡ false → (r : Bool) → r ≡ eventFits (x .head) (eventsIn s x at) g a
+          → InitTold s p x at r
+      unfolding initTest
+      init-all n r er =
+          init-told s p x at r
+          (er ∙ ap (λ (i : ℕ). eventFits (x .head) (eventsIn s x at) i a) eg ∙ ap (eventFits (x .head) (eventsIn s x at) (agentOf (restAt s p))) ea
+          ∙ sym (and-holds _ _ (in-sheet (length s) (p + frontBytes) l) ∙ and-holds _ _ (sym first ∙ not-false f h) ∙ and-holds _ _ (sym same ∙ not-false _ n)))
+
+module _ (s : List ℕ) (p : ℕ) (x : Counts) where
+  pub other-short : ltb (length s) (p + frontBytes) ≡ true → OtherTold s p x false
+  unfolding otherTest
+  other-short h = other-told s p x false (sym (and-fails _ _ (not-in (length s) (p + frontBytes) h)))
+
+  other-same : (a : Shape) → a ≡ shapeOf 2 (restAt s p) → (g t : ℕ) → g ≡ agentOf (restAt s p) → t ≡ tagAt s p → (c o : Bool) → c ≡ endsTest s p (x .head .edition) a
+      → o ≡ (inside (x .head .size) a and ((eqb (a .mode) 1 or eqb (a .mode) 2) and otherFormed (x .head .agents) g a))
+      → ((eqb t 2 && c) && (o && ltb (x .events) (x .inits + maxOthers)))
+      ≡ ((eqb (tagAt s p) 2 and endsTest s p (x .head .edition) (shapeOf 2 (restAt s p)))
+      and ((inside (x .head .size) (shapeOf 2 (restAt s p)) and ((eqb (shapeOf 2 (restAt s p) .mode) 1 or eqb (shapeOf 2 (restAt s p) .mode) 2) and otherFormed (x .head .agents) (agentOf (restAt s p)) (shapeOf 2 (restAt s p))))
+      and ltb (x .events) (x .inits + maxOthers)))
+  unfolding _and_
+  other-same a ea g t eg et c o ec eo = rw (et, ec, eo, eg, ea) refl
+
+  module _ (l : ltb (length s) (p + frontBytes) ≡ false) (a : Shape) (ea : a ≡ shapeOf 2 (restAt s p)) (f : Bool) (ef : f ≡ cond (eqb (x .head .edition) 2) (tearFits a) true) where
+    whole-tear : f ≡ cond (eqb (x .head .edition) 2) (tearFits (shapeOf 2 (restAt s p))) true
+    whole-tear = ef ∙ ap (λ (b : Shape). cond (eqb (x .head .edition) 2) (tearFits b) true) ea
+
+    pub other-torn : not f ≡ true → OtherTold s p x false
+    unfolding otherTest
+    other-torn h =
+        other-told s p x false (sym (and-holds _ _ (in-sheet (length s) (p + frontBytes) l) ∙ and-fails _ _ (sym whole-tear ∙ not-true f h)))
+
+    pub other-all : not f ≡ false → (g t : ℕ) → g ≡ agentOf (restAt s p) → t ≡ tagAt s p → (c o : Bool) → c ≡ endsTest s p (x .head .edition) a
+        → o ≡ (inside (x .head .size) a and ((eqb (a .mode) 1 or eqb (a .mode) 2) and otherFormed (x .head .agents) g a))
+        → OtherTold s p x ((eqb t 2 && c) && (o && ltb (x .events) (x .inits + maxOthers)))
+    unfolding otherTest
+    other-all h g t eg et c o ec eo =
+        other-told s p x _
+        (other-same a ea g t eg et c o ec eo ∙ sym (and-holds _ _ (in-sheet (length s) (p + frontBytes) l) ∙ and-holds _ _ (sym whole-tear ∙ not-false f h)))

@@ -5,20 +5,27 @@
 --     Counted s x at           the counts and places are right of the events
 --     roomBy x agent           room for one event of the agent more, by the counts
 --     faultIn s p last x at    the first fault of the field at p; 0 for none
+--     frontBytes               the bytes of a field before an event's data, in any edition
 --     PlainHead s              the first field is a head without a fault
 --     PlainEvent s p x at b    the field at p is an event without a fault, behind a head or an event; b tells whether of agent 0
+--     headTest, initTest, otherTest     the tests of a head, an init, another event, as the code makes them
+--     HeadTold, InitTold, OtherTold     an answer is the test's, and what passes has no fault
 -- Assumes nothing.
 use mathlib.Core.Path.{_≡_}
-use mathlib.Core.Bool.{Bool, true}
+use mathlib.Core.Bool.{Bool, true, false, cond}
 use mathlib.Core.List.{List}
-use Prim.Native.Nat.{ℕ, _-_, _≤_}
-use lib.Dec.{eqb}
+use Prim.Native.Nat.{ℕ, _+_, _-_, _≤_}
+use lib.Dec.{eqb, leb, ltb}
 use lib.ListN.{length, take}
+use Rattle.basis.specs.Test.{_and_, _or_}
+use Rattle.format.specs.declared.Shape.{Shape}
+use Rattle.format.specs.Shape.{initial}
+use Rattle.format.specs.Limits.{maxInits, maxOthers}
 use Rattle.format.specs.Execution.{inits}
-use Rattle.format.specs.Field.{tagAt, valueAt}
-use Rattle.format.specs.Layout.{agentOf}
-use Rattle.content.specs.Content.{within, roomIn}
-use Rattle.parse.specs.Parse.{State, faultBy}
+use Rattle.format.specs.Field.{fieldBytes, tagAt, lengthAt, nextAt, valueAt, restAt}
+use Rattle.format.specs.Layout.{eventBytes, dataBytes, agentOf, shapeOf}
+use Rattle.content.specs.Content.{within, inside, otherFormed, tearFits, eventFits, roomIn}
+use Rattle.parse.specs.Parse.{State, headFault, faultBy}
 use Rattle.entries.specs.declared.Counts.{Counts}
 use Rattle.entries.specs.Entries.{eventsIn, execution}
 
@@ -37,11 +44,55 @@ roomBy x agent = roomIn (x .inits) (x .events - x .inits) agent
 abbrev pub faultIn : List ℕ → ℕ → ℕ → Counts → List ℕ → ℕ
 faultIn s p last x at = faultBy (roomBy x) s p (view s last x at)
 
+-- the bytes of a field before an event's data, in any edition
+abbrev pub frontBytes : ℕ
+frontBytes = 9
+
 pub record PlainHead (s : List ℕ) : Type 0 where
   pub tag : tagAt s 0 ≡ 1
   pub clean : (x : Counts) (at : List ℕ) → faultIn s 0 0 x at ≡ 0
 
 pub record PlainEvent (s : List ℕ) (p : ℕ) (x : Counts) (at : List ℕ) (b : Bool) : Type 0 where
+  pub front : p + frontBytes ≤ length s
   pub tag : tagAt s p ≡ 2
   pub agent : eqb (agentOf (valueAt s p)) 0 ≡ b
   pub clean : (last : ℕ) → within 1 2 last ≡ true → faultIn s p last x at ≡ 0
+
+-- ---- the tests of most fields: each field that passes one has no fault, and each that does not is left to the ladder of all tests
+
+-- the first field is a head within the sheet, and its value has no fault
+unfoldable pub headTest : List ℕ → Bool
+headTest s = ((leb fieldBytes (length s) and leb (nextAt s 0) (length s)) and eqb (tagAt s 0) 1) and eqb (headFault (valueAt s 0)) 0
+
+-- the value of the field at p is as long as an event's of shape a, and ends within the sheet
+abbrev pub endsTest : List ℕ → ℕ → ℕ → Shape → Bool
+endsTest s p edition a = eqb (lengthAt s p) (eventBytes edition + dataBytes a) and leb (nextAt s p) (length s)
+
+-- the field at p is an init that fits, with room for it
+unfoldable pub initTest : List ℕ → ℕ → Counts → List ℕ → Bool
+initTest s p x at =
+    leb (p + frontBytes) (length s)
+    and (initial (shapeOf (x .head .edition) (restAt s p))
+    and (((eqb (tagAt s p) 2 and endsTest s p (x .head .edition) (shapeOf (x .head .edition) (restAt s p))) and (eqb (agentOf (restAt s p)) 0 and ltb (x .inits) maxInits))
+    and eventFits (x .head) (eventsIn s x at) (agentOf (restAt s p)) (shapeOf (x .head .edition) (restAt s p))))
+
+-- the field at p is an event of mode 1 or 2 that fits, with room for it: by edition 2's layout, whose tear byte only edition 2 asks for
+unfoldable pub otherTest : List ℕ → ℕ → Counts → Bool
+otherTest s p x =
+    leb (p + frontBytes) (length s)
+    and (cond (eqb (x .head .edition) 2) (tearFits (shapeOf 2 (restAt s p))) true
+    and ((eqb (tagAt s p) 2 and endsTest s p (x .head .edition) (shapeOf 2 (restAt s p)))
+    and ((inside (x .head .size) (shapeOf 2 (restAt s p)) and ((eqb (shapeOf 2 (restAt s p) .mode) 1 or eqb (shapeOf 2 (restAt s p) .mode) 2) and otherFormed (x .head .agents) (agentOf (restAt s p)) (shapeOf 2 (restAt s p))))
+    and ltb (x .events) (x .inits + maxOthers))))
+
+pub record HeadTold (s : List ℕ) (r : Bool) : Type 0 where
+  pub is : r ≡ headTest s
+  pub clean : r ≡ true → PlainHead s
+
+pub record InitTold (s : List ℕ) (p : ℕ) (x : Counts) (at : List ℕ) (r : Bool) : Type 0 where
+  pub is : r ≡ initTest s p x at
+  pub clean : r ≡ true → PlainEvent s p x at true
+
+pub record OtherTold (s : List ℕ) (p : ℕ) (x : Counts) (r : Bool) : Type 0 where
+  pub is : r ≡ otherTest s p x
+  pub clean : r ≡ true → (at : List ℕ) → PlainEvent s p x at false

@@ -8,18 +8,13 @@ use format::field;
 use format::field::FIELD_BYTES;
 use sizes::PAIR_BYTES;
 ghost use mathlib.Core.Path.{_≡_};
-ghost use mathlib.Core.Bool.{true, false, cond};
-ghost use mathlib.Core.List.{List};
-ghost use Prim.Native.Nat.{ℕ, _+_, _-_};
-ghost use lib.Dec.{eqb, leb};
-ghost use lib.ListN.{length};
-ghost use Rattle.basis.specs.Test.{_and_};
-ghost use Rattle.format.specs.Field.{lengthAt, nextAt};
-ghost use Rattle.format.specs.Layout.{eventBytes, dataBytes};
+ghost use mathlib.Core.Bool.{true, cond};
+ghost use Prim.Native.Nat.{_-_};
+ghost use lib.Dec.{eqb};
 ghost use Rattle.content.specs.Content.{tearFits};
 ghost use Rattle.parse.specs.Parse.{placeOf, allowed, headFault, eventFaultBy, rowFault, pairFault, valueFaultBy};
 ghost use Rattle.entries.specs.Entries.{eventsIn, rowsIn, pairsIn, execution};
-ghost use Rattle.faults.specs.Faults.{roomBy, faultIn, PlainHead, PlainEvent};
+ghost use Rattle.faults.specs.Faults.{roomBy, faultIn, endsTest, HeadTold, InitTold, OtherTold};
 
 // The place of a refusal of a field, from its number and the place of the tag: made here and nowhere else.
 pub fn place_of(number: u8, tag: u16) -> u32
@@ -163,7 +158,7 @@ const FRONT_BYTES: usize = 9;
 
 // The first field as a head.
 pub fn plain_head(s: &[u8]) -> bool
-    ensures { λ r. ⌜ (r ≡ true → PlainHead (now (s .entry))) ⌝ }
+    ensures { λ r. ⌜ HeadTold (now (s .entry)) r ⌝ }
 {
     let v = field::value_at(s, 0);
     let there = (FIELD_BYTES <= s.len())
@@ -177,7 +172,7 @@ pub fn plain_head(s: &[u8]) -> bool
 
 // The value of the field at p is one of an event of shape a by its length, and ends within the sheet.
 fn event_ends(s: &[u8], p: u16, edition: u8, a: Shape) -> bool
-    ensures { λ r. ⌜ r ≡ (eqb (lengthAt (now (s .entry)) p) (eventBytes edition + dataBytes a) and leb (nextAt (now (s .entry)) p) (length (now (s .entry)))) ⌝ }
+    ensures { λ r. ⌜ r ≡ endsTest (now (s .entry)) p edition a ⌝ }
 {
     let len = field::length_at(s, p as u32) as usize;
     let exact = len == sizes::event_bytes(edition) as usize + sizes::data_bytes(a) as usize;
@@ -196,7 +191,7 @@ fn tear_clean(edition: u8, a: Shape) -> bool
 
 // The field at p, behind a head or an init, as an init.
 pub fn plain_init(s: &[u8], p: u16, x: Counts, at: &[u16]) -> bool
-    ensures { λ r. ⌜ (r ≡ true → PlainEvent (now (s .entry)) p x (now (at .entry)) true) ⌝ }
+    ensures { λ r. ⌜ InitTold (now (s .entry)) p x (now (at .entry)) r ⌝ }
 {
     let place = p as usize;
     let short = s.len() < place + FRONT_BYTES;
@@ -221,7 +216,7 @@ pub fn plain_init(s: &[u8], p: u16, x: Counts, at: &[u16]) -> bool
 // The field at p, behind a head or an event, as an event that is no init. It is read by edition 2's layout, which has the tear byte as it
 // stands; at edition 1 no test here asks for it.
 pub fn plain_event(s: &[u8], p: u16, x: Counts) -> bool
-    ensures { λ r. ⌜ (r ≡ true → (at : List ℕ) → PlainEvent (now (s .entry)) p x at false) ⌝ }
+    ensures { λ r. ⌜ OtherTold (now (s .entry)) p x r ⌝ }
 {
     let place = p as usize;
     let short = s.len() < place + FRONT_BYTES;

@@ -194,7 +194,7 @@ module _ (s : List ℕ) (x : Counts) (at : List ℕ) (laid : Laid s x at) (well 
     row-cell : (c v : ℕ) → getD (rowsPut s x at t (x .rows) (replicate rowCells 0)) c 0 ≡ v → getD q c 0 ≡ v
     row-cell c v e = ap (λ (l : List ℕ). getD l c 0) q-is ∙ e
 
-    q-long : length {A = ℕ} (replicate rowCells 0) ≡ 2560
+    q-long : length {A = ℕ} (replicate rowCells 0) ≡ 1440
     q-long = length-replicate {A = ℕ} rowCells 0
 
     inside : (j : ℕ) → j < x .rows → (rowNo s x j .reader < x .events) × (rowNo s x j .writer < x .events)
@@ -212,8 +212,8 @@ module _ (s : List ℕ) (x : Counts) (at : List ℕ) (laid : Laid s x at) (well 
         let y = laid .few in
         sym (row-path
         (ap (λ (i : ℕ). i % slots) (row-cell j _ (reader-at s x at t (replicate rowCells 0) q-long (x .rows) rows-few j h)) ∙ mod-eq-of-lt (omega (arith, w .0)))
-        (row-cell (512 + j) _ (address-at s x at t (replicate rowCells 0) q-long (x .rows) rows-few j h))
-        (ap (λ (i : ℕ). i % slots) (row-cell (1024 + j) _ (writer-at s x at t (replicate rowCells 0) q-long (x .rows) rows-few j h)) ∙ mod-eq-of-lt (omega (arith, w .1))))
+        (row-cell (288 + j) _ (address-at s x at t (replicate rowCells 0) q-long (x .rows) rows-few j h))
+        (ap (λ (i : ℕ). i % slots) (row-cell (576 + j) _ (writer-at s x at t (replicate rowCells 0) q-long (x .rows) rows-few j h)) ∙ mod-eq-of-lt (omega (arith, w .1))))
 
     pub laid-rowed : Rowed (execution s x at) q (x .rows)
     unfolding rowsOn
@@ -234,12 +234,12 @@ module _ (s : List ℕ) (x : Counts) (at : List ℕ) (laid : Laid s x at) (well 
         record {
           seen = λ j h.
               let r = rowNo s x j in
-              row-cell (1536 + j) (seenAt s (x .head .edition) at t r) (seen-at s x at t (replicate rowCells 0) q-long (x .rows) rows-few j h)
+              row-cell (864 + j) (seenAt s (x .head .edition) at t r) (seen-at s x at t (replicate rowCells 0) q-long (x .rows) rows-few j h)
               ∙ seen-of (r .reader) (r .address) (inside j h .0) (reads-row j h)
               ∙ ap (λ (r : Row). saw (event (execution s x at) (r .reader)) (r .address)) (row-of j h);
           wrote = λ j h.
               let r = rowNo s x j in
-              row-cell (2048 + j) (wroteAt s (x .head .edition) at t r) (wrote-at s x at t (replicate rowCells 0) q-long (x .rows) rows-few j h)
+              row-cell (1152 + j) (wroteAt s (x .head .edition) at t r) (wrote-at s x at t (replicate rowCells 0) q-long (x .rows) rows-few j h)
               ∙ wrote-of (r .writer) (r .address) (inside j h .1) (writes-row j h)
               ∙ ap (λ (r : Row). wrote (event (execution s x at) (r .writer)) (r .address)) (row-of j h);
         }

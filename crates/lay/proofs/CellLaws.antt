@@ -190,60 +190,60 @@ module _ (s : List ℕ) (edition : ℕ) (at l : List ℕ) (long : length l ≡ 3
 
 -- ---- rows
 
-module _ (s : List ℕ) (x : Counts) (at t l : List ℕ) (long : length l ≡ 2560) (m : ℕ) (few : m ≤ rowRoom) where
+module _ (s : List ℕ) (x : Counts) (at t l : List ℕ) (long : length l ≡ 1440) (m : ℕ) (few : m ≤ rowRoom) where
   row-is : (j : ℕ) (k : List ℕ) → j < rowRoom → rowPut s x at t j k ≡ puttingRow k j (rowNo s x j) (seenAt s (x .head .edition) at t (rowNo s x j)) (wroteAt s (x .head .edition) at t (rowNo s x j))
   unfolding rowPut
   row-is j k h = ap (λ (i : ℕ). puttingRow k i (rowNo s x j) (seenAt s (x .head .edition) at t (rowNo s x j)) (wroteAt s (x .head .edition) at t (rowNo s x j))) (mod-eq-of-lt h)
 
-  reader-hit : (j : ℕ) (k : List ℕ) → j < rowRoom → length k ≡ 2560 → getD (rowPut s x at t j k) j 0 ≡ rowNo s x j .reader
-  reader-hit j k h z = ap (λ (y : List ℕ). getD y j 0) (row-is j k h) ∙ five-a k j (512 + j) (1024 + j) (1536 + j) (2048 + j) (rowNo s x j .reader) (rowNo s x j .address) (rowNo s x j .writer) (seenAt s (x .head .edition) at t (rowNo s x j)) (wroteAt s (x .head .edition) at t (rowNo s x j)) (omega arith) (λ z. omega arith) (λ z. omega arith) (λ z. omega arith) (λ z. omega arith)
+  reader-hit : (j : ℕ) (k : List ℕ) → j < rowRoom → length k ≡ 1440 → getD (rowPut s x at t j k) j 0 ≡ rowNo s x j .reader
+  reader-hit j k h z = ap (λ (y : List ℕ). getD y j 0) (row-is j k h) ∙ five-a k j (288 + j) (576 + j) (864 + j) (1152 + j) (rowNo s x j .reader) (rowNo s x j .address) (rowNo s x j .writer) (seenAt s (x .head .edition) at t (rowNo s x j)) (wroteAt s (x .head .edition) at t (rowNo s x j)) (omega arith) (λ z. omega arith) (λ z. omega arith) (λ z. omega arith) (λ z. omega arith)
 
   reader-miss : (i j : ℕ) (k : List ℕ) → i < rowRoom → j < rowRoom → (i ≡ j → ⊥) → getD (rowPut s x at t j k) i 0 ≡ getD k i 0
-  reader-miss i j k h g d = ap (λ (y : List ℕ). getD y i 0) (row-is j k g) ∙ five-miss k j (512 + j) (1024 + j) (1536 + j) (2048 + j) (rowNo s x j .reader) (rowNo s x j .address) (rowNo s x j .writer) (seenAt s (x .head .edition) at t (rowNo s x j)) (wroteAt s (x .head .edition) at t (rowNo s x j)) i d (λ z. omega arith) (λ z. omega arith) (λ z. omega arith) (λ z. omega arith)
+  reader-miss i j k h g d = ap (λ (y : List ℕ). getD y i 0) (row-is j k g) ∙ five-miss k j (288 + j) (576 + j) (864 + j) (1152 + j) (rowNo s x j .reader) (rowNo s x j .address) (rowNo s x j .writer) (seenAt s (x .head .edition) at t (rowNo s x j)) (wroteAt s (x .head .edition) at t (rowNo s x j)) i d (λ z. omega arith) (λ z. omega arith) (λ z. omega arith) (λ z. omega arith)
 
   pub reader-at : (i : ℕ) → i < m → getD (rowsPut s x at t m l) i 0 ≡ rowNo s x i .reader
   unfolding rowsPut
-  reader-at i h = cell-at (rowPut s x at t) (λ j. j) (λ j. rowNo s x j .reader) rowRoom 2560 (row-length s x at t) reader-hit reader-miss l long m i few h
+  reader-at i h = cell-at (rowPut s x at t) (λ j. j) (λ j. rowNo s x j .reader) rowRoom 1440 (row-length s x at t) reader-hit reader-miss l long m i few h
 
-  address-hit : (j : ℕ) (k : List ℕ) → j < rowRoom → length k ≡ 2560 → getD (rowPut s x at t j k) (512 + j) 0 ≡ rowNo s x j .address
-  address-hit j k h z = ap (λ (y : List ℕ). getD y (512 + j) 0) (row-is j k h) ∙ five-b k j (512 + j) (1024 + j) (1536 + j) (2048 + j) (rowNo s x j .reader) (rowNo s x j .address) (rowNo s x j .writer) (seenAt s (x .head .edition) at t (rowNo s x j)) (wroteAt s (x .head .edition) at t (rowNo s x j)) (omega arith) (λ z. omega arith) (λ z. omega arith) (λ z. omega arith)
+  address-hit : (j : ℕ) (k : List ℕ) → j < rowRoom → length k ≡ 1440 → getD (rowPut s x at t j k) (288 + j) 0 ≡ rowNo s x j .address
+  address-hit j k h z = ap (λ (y : List ℕ). getD y (288 + j) 0) (row-is j k h) ∙ five-b k j (288 + j) (576 + j) (864 + j) (1152 + j) (rowNo s x j .reader) (rowNo s x j .address) (rowNo s x j .writer) (seenAt s (x .head .edition) at t (rowNo s x j)) (wroteAt s (x .head .edition) at t (rowNo s x j)) (omega arith) (λ z. omega arith) (λ z. omega arith) (λ z. omega arith)
 
-  address-miss : (i j : ℕ) (k : List ℕ) → i < rowRoom → j < rowRoom → (i ≡ j → ⊥) → getD (rowPut s x at t j k) (512 + i) 0 ≡ getD k (512 + i) 0
-  address-miss i j k h g d = ap (λ (y : List ℕ). getD y (512 + i) 0) (row-is j k g) ∙ five-miss k j (512 + j) (1024 + j) (1536 + j) (2048 + j) (rowNo s x j .reader) (rowNo s x j .address) (rowNo s x j .writer) (seenAt s (x .head .edition) at t (rowNo s x j)) (wroteAt s (x .head .edition) at t (rowNo s x j)) (512 + i) (λ z. omega arith) (λ z. d (omega arith)) (λ z. omega arith) (λ z. omega arith) (λ z. omega arith)
+  address-miss : (i j : ℕ) (k : List ℕ) → i < rowRoom → j < rowRoom → (i ≡ j → ⊥) → getD (rowPut s x at t j k) (288 + i) 0 ≡ getD k (288 + i) 0
+  address-miss i j k h g d = ap (λ (y : List ℕ). getD y (288 + i) 0) (row-is j k g) ∙ five-miss k j (288 + j) (576 + j) (864 + j) (1152 + j) (rowNo s x j .reader) (rowNo s x j .address) (rowNo s x j .writer) (seenAt s (x .head .edition) at t (rowNo s x j)) (wroteAt s (x .head .edition) at t (rowNo s x j)) (288 + i) (λ z. omega arith) (λ z. d (omega arith)) (λ z. omega arith) (λ z. omega arith) (λ z. omega arith)
 
-  pub address-at : (i : ℕ) → i < m → getD (rowsPut s x at t m l) (512 + i) 0 ≡ rowNo s x i .address
+  pub address-at : (i : ℕ) → i < m → getD (rowsPut s x at t m l) (288 + i) 0 ≡ rowNo s x i .address
   unfolding rowsPut
-  address-at i h = cell-at (rowPut s x at t) (λ j. 512 + j) (λ j. rowNo s x j .address) rowRoom 2560 (row-length s x at t) address-hit address-miss l long m i few h
+  address-at i h = cell-at (rowPut s x at t) (λ j. 288 + j) (λ j. rowNo s x j .address) rowRoom 1440 (row-length s x at t) address-hit address-miss l long m i few h
 
-  writer-hit : (j : ℕ) (k : List ℕ) → j < rowRoom → length k ≡ 2560 → getD (rowPut s x at t j k) (1024 + j) 0 ≡ rowNo s x j .writer
-  writer-hit j k h z = ap (λ (y : List ℕ). getD y (1024 + j) 0) (row-is j k h) ∙ five-c k j (512 + j) (1024 + j) (1536 + j) (2048 + j) (rowNo s x j .reader) (rowNo s x j .address) (rowNo s x j .writer) (seenAt s (x .head .edition) at t (rowNo s x j)) (wroteAt s (x .head .edition) at t (rowNo s x j)) (omega arith) (λ z. omega arith) (λ z. omega arith)
+  writer-hit : (j : ℕ) (k : List ℕ) → j < rowRoom → length k ≡ 1440 → getD (rowPut s x at t j k) (576 + j) 0 ≡ rowNo s x j .writer
+  writer-hit j k h z = ap (λ (y : List ℕ). getD y (576 + j) 0) (row-is j k h) ∙ five-c k j (288 + j) (576 + j) (864 + j) (1152 + j) (rowNo s x j .reader) (rowNo s x j .address) (rowNo s x j .writer) (seenAt s (x .head .edition) at t (rowNo s x j)) (wroteAt s (x .head .edition) at t (rowNo s x j)) (omega arith) (λ z. omega arith) (λ z. omega arith)
 
-  writer-miss : (i j : ℕ) (k : List ℕ) → i < rowRoom → j < rowRoom → (i ≡ j → ⊥) → getD (rowPut s x at t j k) (1024 + i) 0 ≡ getD k (1024 + i) 0
-  writer-miss i j k h g d = ap (λ (y : List ℕ). getD y (1024 + i) 0) (row-is j k g) ∙ five-miss k j (512 + j) (1024 + j) (1536 + j) (2048 + j) (rowNo s x j .reader) (rowNo s x j .address) (rowNo s x j .writer) (seenAt s (x .head .edition) at t (rowNo s x j)) (wroteAt s (x .head .edition) at t (rowNo s x j)) (1024 + i) (λ z. omega arith) (λ z. omega arith) (λ z. d (omega arith)) (λ z. omega arith) (λ z. omega arith)
+  writer-miss : (i j : ℕ) (k : List ℕ) → i < rowRoom → j < rowRoom → (i ≡ j → ⊥) → getD (rowPut s x at t j k) (576 + i) 0 ≡ getD k (576 + i) 0
+  writer-miss i j k h g d = ap (λ (y : List ℕ). getD y (576 + i) 0) (row-is j k g) ∙ five-miss k j (288 + j) (576 + j) (864 + j) (1152 + j) (rowNo s x j .reader) (rowNo s x j .address) (rowNo s x j .writer) (seenAt s (x .head .edition) at t (rowNo s x j)) (wroteAt s (x .head .edition) at t (rowNo s x j)) (576 + i) (λ z. omega arith) (λ z. omega arith) (λ z. d (omega arith)) (λ z. omega arith) (λ z. omega arith)
 
-  pub writer-at : (i : ℕ) → i < m → getD (rowsPut s x at t m l) (1024 + i) 0 ≡ rowNo s x i .writer
+  pub writer-at : (i : ℕ) → i < m → getD (rowsPut s x at t m l) (576 + i) 0 ≡ rowNo s x i .writer
   unfolding rowsPut
-  writer-at i h = cell-at (rowPut s x at t) (λ j. 1024 + j) (λ j. rowNo s x j .writer) rowRoom 2560 (row-length s x at t) writer-hit writer-miss l long m i few h
+  writer-at i h = cell-at (rowPut s x at t) (λ j. 576 + j) (λ j. rowNo s x j .writer) rowRoom 1440 (row-length s x at t) writer-hit writer-miss l long m i few h
 
-  seen-hit : (j : ℕ) (k : List ℕ) → j < rowRoom → length k ≡ 2560 → getD (rowPut s x at t j k) (1536 + j) 0 ≡ seenAt s (x .head .edition) at t (rowNo s x j)
-  seen-hit j k h z = ap (λ (y : List ℕ). getD y (1536 + j) 0) (row-is j k h) ∙ five-d k j (512 + j) (1024 + j) (1536 + j) (2048 + j) (rowNo s x j .reader) (rowNo s x j .address) (rowNo s x j .writer) (seenAt s (x .head .edition) at t (rowNo s x j)) (wroteAt s (x .head .edition) at t (rowNo s x j)) (omega arith) (λ z. omega arith)
+  seen-hit : (j : ℕ) (k : List ℕ) → j < rowRoom → length k ≡ 1440 → getD (rowPut s x at t j k) (864 + j) 0 ≡ seenAt s (x .head .edition) at t (rowNo s x j)
+  seen-hit j k h z = ap (λ (y : List ℕ). getD y (864 + j) 0) (row-is j k h) ∙ five-d k j (288 + j) (576 + j) (864 + j) (1152 + j) (rowNo s x j .reader) (rowNo s x j .address) (rowNo s x j .writer) (seenAt s (x .head .edition) at t (rowNo s x j)) (wroteAt s (x .head .edition) at t (rowNo s x j)) (omega arith) (λ z. omega arith)
 
-  seen-miss : (i j : ℕ) (k : List ℕ) → i < rowRoom → j < rowRoom → (i ≡ j → ⊥) → getD (rowPut s x at t j k) (1536 + i) 0 ≡ getD k (1536 + i) 0
-  seen-miss i j k h g d = ap (λ (y : List ℕ). getD y (1536 + i) 0) (row-is j k g) ∙ five-miss k j (512 + j) (1024 + j) (1536 + j) (2048 + j) (rowNo s x j .reader) (rowNo s x j .address) (rowNo s x j .writer) (seenAt s (x .head .edition) at t (rowNo s x j)) (wroteAt s (x .head .edition) at t (rowNo s x j)) (1536 + i) (λ z. omega arith) (λ z. omega arith) (λ z. omega arith) (λ z. d (omega arith)) (λ z. omega arith)
+  seen-miss : (i j : ℕ) (k : List ℕ) → i < rowRoom → j < rowRoom → (i ≡ j → ⊥) → getD (rowPut s x at t j k) (864 + i) 0 ≡ getD k (864 + i) 0
+  seen-miss i j k h g d = ap (λ (y : List ℕ). getD y (864 + i) 0) (row-is j k g) ∙ five-miss k j (288 + j) (576 + j) (864 + j) (1152 + j) (rowNo s x j .reader) (rowNo s x j .address) (rowNo s x j .writer) (seenAt s (x .head .edition) at t (rowNo s x j)) (wroteAt s (x .head .edition) at t (rowNo s x j)) (864 + i) (λ z. omega arith) (λ z. omega arith) (λ z. omega arith) (λ z. d (omega arith)) (λ z. omega arith)
 
-  pub seen-at : (i : ℕ) → i < m → getD (rowsPut s x at t m l) (1536 + i) 0 ≡ seenAt s (x .head .edition) at t (rowNo s x i)
+  pub seen-at : (i : ℕ) → i < m → getD (rowsPut s x at t m l) (864 + i) 0 ≡ seenAt s (x .head .edition) at t (rowNo s x i)
   unfolding rowsPut
-  seen-at i h = cell-at (rowPut s x at t) (λ j. 1536 + j) (λ j. seenAt s (x .head .edition) at t (rowNo s x j)) rowRoom 2560 (row-length s x at t) seen-hit seen-miss l long m i few h
+  seen-at i h = cell-at (rowPut s x at t) (λ j. 864 + j) (λ j. seenAt s (x .head .edition) at t (rowNo s x j)) rowRoom 1440 (row-length s x at t) seen-hit seen-miss l long m i few h
 
-  wrote-hit : (j : ℕ) (k : List ℕ) → j < rowRoom → length k ≡ 2560 → getD (rowPut s x at t j k) (2048 + j) 0 ≡ wroteAt s (x .head .edition) at t (rowNo s x j)
-  wrote-hit j k h z = ap (λ (y : List ℕ). getD y (2048 + j) 0) (row-is j k h) ∙ five-e k j (512 + j) (1024 + j) (1536 + j) (2048 + j) (rowNo s x j .reader) (rowNo s x j .address) (rowNo s x j .writer) (seenAt s (x .head .edition) at t (rowNo s x j)) (wroteAt s (x .head .edition) at t (rowNo s x j)) (omega arith)
+  wrote-hit : (j : ℕ) (k : List ℕ) → j < rowRoom → length k ≡ 1440 → getD (rowPut s x at t j k) (1152 + j) 0 ≡ wroteAt s (x .head .edition) at t (rowNo s x j)
+  wrote-hit j k h z = ap (λ (y : List ℕ). getD y (1152 + j) 0) (row-is j k h) ∙ five-e k j (288 + j) (576 + j) (864 + j) (1152 + j) (rowNo s x j .reader) (rowNo s x j .address) (rowNo s x j .writer) (seenAt s (x .head .edition) at t (rowNo s x j)) (wroteAt s (x .head .edition) at t (rowNo s x j)) (omega arith)
 
-  wrote-miss : (i j : ℕ) (k : List ℕ) → i < rowRoom → j < rowRoom → (i ≡ j → ⊥) → getD (rowPut s x at t j k) (2048 + i) 0 ≡ getD k (2048 + i) 0
-  wrote-miss i j k h g d = ap (λ (y : List ℕ). getD y (2048 + i) 0) (row-is j k g) ∙ five-miss k j (512 + j) (1024 + j) (1536 + j) (2048 + j) (rowNo s x j .reader) (rowNo s x j .address) (rowNo s x j .writer) (seenAt s (x .head .edition) at t (rowNo s x j)) (wroteAt s (x .head .edition) at t (rowNo s x j)) (2048 + i) (λ z. omega arith) (λ z. omega arith) (λ z. omega arith) (λ z. omega arith) (λ z. d (omega arith))
+  wrote-miss : (i j : ℕ) (k : List ℕ) → i < rowRoom → j < rowRoom → (i ≡ j → ⊥) → getD (rowPut s x at t j k) (1152 + i) 0 ≡ getD k (1152 + i) 0
+  wrote-miss i j k h g d = ap (λ (y : List ℕ). getD y (1152 + i) 0) (row-is j k g) ∙ five-miss k j (288 + j) (576 + j) (864 + j) (1152 + j) (rowNo s x j .reader) (rowNo s x j .address) (rowNo s x j .writer) (seenAt s (x .head .edition) at t (rowNo s x j)) (wroteAt s (x .head .edition) at t (rowNo s x j)) (1152 + i) (λ z. omega arith) (λ z. omega arith) (λ z. omega arith) (λ z. omega arith) (λ z. d (omega arith))
 
-  pub wrote-at : (i : ℕ) → i < m → getD (rowsPut s x at t m l) (2048 + i) 0 ≡ wroteAt s (x .head .edition) at t (rowNo s x i)
+  pub wrote-at : (i : ℕ) → i < m → getD (rowsPut s x at t m l) (1152 + i) 0 ≡ wroteAt s (x .head .edition) at t (rowNo s x i)
   unfolding rowsPut
-  wrote-at i h = cell-at (rowPut s x at t) (λ j. 2048 + j) (λ j. wroteAt s (x .head .edition) at t (rowNo s x j)) rowRoom 2560 (row-length s x at t) wrote-hit wrote-miss l long m i few h
+  wrote-at i h = cell-at (rowPut s x at t) (λ j. 1152 + j) (λ j. wroteAt s (x .head .edition) at t (rowNo s x j)) rowRoom 1440 (row-length s x at t) wrote-hit wrote-miss l long m i few h
 
 -- ---- pairs
 

@@ -19,8 +19,9 @@ use Rattle.sets.specs.Mask.{slots}
 use Rattle.answer.specs.declared.Names.{Names}
 use Rattle.answer.specs.declared.Rule.{Rule}
 use Rattle.answer.specs.declared.Rule.the-variants.{Kept, Breach}
-use Rattle.tables.specs.Tables.{columns, rowRoom, rowCells}
-use Rattle.prepare.specs.Prepared.{Prepared}
+use Rattle.tables.specs.Tables.{columns, rowRoom, rowCells, pairCells}
+use Rattle.lay.specs.Lay.{eventsPut, rowsPut, Layered}
+use Rattle.prepare.specs.Prepared.{Ruled}
 use Rattle.model.specs.Rules.{faulty, fault}
 use Rattle.model.specs.Bar.{rowBars}
 use Rattle.model.proofs.Sound.{sound}
@@ -39,34 +40,38 @@ pub checked-refused : {s : List ℕ} {n p : ℕ} → parse s ≡ refused n p →
 checked-refused e = record { says = e }
 
 module _ {s : List ℕ} {x : Counts} {at : List ℕ} (h : HandedWhole s x at) {t q succ pred : List ℕ} {rule : Rule}
-    (w : Prepared s x at (replicate columns 0) t (replicate rowCells 0) q (replicate slots 0) succ (replicate slots 0) pred rule) where
+    (accesses : t ≡ eventsPut s (x .head .edition) at (min (x .events) slots) (replicate columns 0))
+    (rows : q ≡ rowsPut s x at t (min (x .rows) rowRoom) (replicate rowCells 0)) (w : Ruled s x t q (replicate slots 0) succ (replicate slots 0) pred rule) where
+  laid : Layered s x at (replicate columns 0) t (replicate rowCells 0) q (replicate pairCells 0) (w .p)
+  laid = record { events = accesses; rows = rows; pairs = w .pairs }
+
   abbrev X : Execution
   X = execution s x at
 
   well : WellFormed X
   well = promise s X (h .says)
 
-  held : Held X (x .events) (x .rows) t q succ pred
-  held = sheet-held (h .laid) well (w .laid) (w .ordered)
+  held : Held X (x .events) (x .rows) t q (w .after) (w .before)
+  held = sheet-held (h .laid) well laid (w .ordered)
 
-  found : foundOf rule ≡ fault X (hbOf succ)
-  found = ap foundOf (w .says) ∙ sheet-rules (h .laid) well (w .laid) (w .ordered)
+  found : foundOf rule ≡ fault X (hbOf (w .after))
+  found = ap foundOf (w .says) ∙ sheet-rules (h .laid) well laid (w .ordered)
 
   pub checked-broken : {n : ℕ} {names : Names} → rule ≡ Breach n names → CheckedBroken s (faulty n names)
   checked-broken k =
-      record { execution = X; describes = h .says; hb = hbOf succ; tests = held .tests; breaks = sym found ∙ ap foundOf k }
+      record { execution = X; describes = h .says; hb = hbOf (w .after); tests = held .tests; breaks = sym found ∙ ap foundOf k }
 
   -- what a list is held against, over the tables and over the execution
-  same-trial : (l : List ℕ) → listFault (trialIn (min (x .events) slots) t succ pred q (min (x .rows) rowRoom)) l ≡ listFault (trial X (hbOf succ)) l
+  same-trial : (l : List ℕ) → listFault (trialIn (min (x .events) slots) t (w .after) (w .before) q (min (x .rows) rowRoom)) l ≡ listFault (trial X (hbOf (w .after))) l
   same-trial l =
       let few = held .tabled .few in
       let rows-few = held .rows-few in
       let a : min (x .events) slots ≡ x .events = omega arith in
       let b : min (x .rows) rowRoom ≡ x .rows = omega arith in
-      ap₂ (λ (n m : ℕ). listFault (trialIn n t succ pred q m) l) a b
-      ∙ fault-same (trialIn (x .events) t succ pred q (x .rows)) (hbOf succ) (rowBars X (hbOf succ)) (λ e d. held .turned e d)
+      ap₂ (λ (n m : ℕ). listFault (trialIn n t (w .after) (w .before) q m) l) a b
+      ∙ fault-same (trialIn (x .events) t (w .after) (w .before) q (x .rows)) (hbOf (w .after)) (rowBars X (hbOf (w .after))) (λ e d. held .turned e d)
       (λ d v i k. held-row held (sound X well) d (subst (λ (z : List Row). List·Memᴰ d z) (sym (held .rowed)) i) v (omega arith)) l
-      ∙ ap₂ (λ (n : ℕ) (z : List Row). listFault (record { events = n; before = hbOf succ; rows = z; bars = rowBars X (hbOf succ) }) l) (sym (held .tabled .count)) (sym (held .rowed))
+      ∙ ap₂ (λ (n : ℕ) (z : List Row). listFault (record { events = n; before = hbOf (w .after); rows = z; bars = rowBars X (hbOf (w .after)) }) l) (sym (held .tabled .count)) (sym (held .rowed))
 
   pub checked-list : rule ≡ Kept → (l : List ℕ) {said : Said} → said ≡ saidOf (listFault (trialIn (min (x .events) slots) t succ pred q (min (x .rows) rowRoom)) l)
       → CheckedList s l said
@@ -74,10 +79,10 @@ module _ {s : List ℕ} {x : Counts} {at : List ℕ} (h : HandedWhole s x at) {t
       record {
         execution = X;
         describes = h .says;
-        hb = hbOf succ;
+        hb = hbOf (w .after);
         tests = held .tests;
         unbroken = sym found ∙ ap foundOf k;
-        says = e ∙ ap saidOf (same-trial l);
+        says = e ∙ ap₂ (λ (a b : List ℕ). saidOf (listFault (trialIn (min (x .events) slots) t a b q (min (x .rows) rowRoom)) l)) (w .left k .0) (w .left k .1) ∙ ap saidOf (same-trial l);
       }
 
 -- ---- agreement

@@ -11,7 +11,11 @@ use sheet::Reading;
 use tables::COLUMNS;
 use tables::ROW_CELLS;
 ghost use mathlib.Core.Path.{_≡_};
-ghost use Rattle.sheet.specs.Handed.{HandedWhole};
+ghost use mathlib.Core.List.{List};
+ghost use Prim.Native.Nat.{ℕ};
+ghost use lib.ListN.{replicate};
+ghost use Rattle.tables.specs.Tables.{columns, rowCells};
+ghost use Rattle.sheet.specs.Filled.{FilledWhole};
 ghost use Rattle.log_check.specs.Checked.{Checked};
 ghost use Rattle.answer.specs.Word.{word};
 ghost use Rattle.log_check.specs.Word.{faultNumber, faultRest, saidWord, checkedWord};
@@ -24,21 +28,19 @@ pub enum Reply {
     Listed(Said),
 }
 
-// A whole sheet: the first broken rule of 21 to 25, or what is said of the list.
-fn weigh(s: &[u8], x: Counts, at: &[u16], list: &[u8]) -> Reply
-    requires { ⌜ HandedWhole (now s) x (now at) ⌝ }
+// A whole sheet and its tables: the first broken rule of 21 to 25, or what is said of the list.
+fn weigh(s: &[u8], x: Counts, t: &[u8; COLUMNS], q: &[u8; ROW_CELLS], list: &[u8]) -> Reply
+    requires { ⌜ ((at : List ℕ) × FilledWhole (now s) x at (replicate columns 0) (now t) (replicate rowCells 0) (now q)) ⌝ }
     ensures { λ r. ⌜ Checked (now (s .entry)) (now (list .entry)) r ⌝ }
 {
     let events = x.events as usize;
     let rows = x.rows as usize;
-    let mut t = [0u8; COLUMNS];
-    let mut q = [0u8; ROW_CELLS];
     let mut succ = [0u32; SLOTS];
     let mut pred = [0u32; SLOTS];
-    let rule = prepare::prepare(s, x, at, &mut t, &mut q, &mut succ, &mut pred);
+    let rule = prepare::rule(s, x, t, q, &mut succ, &mut pred);
     match rule {
         Rule::Breach(n, names) => Reply::Broken(n, names),
-        Rule::Kept => { Reply::Listed(log_order::check(events, &t, &succ, &pred, &q, rows, list)) }
+        Rule::Kept => Reply::Listed(log_order::check(events, t, &succ, &pred, q, rows, list)),
     }
 }
 
@@ -46,13 +48,15 @@ fn weigh(s: &[u8], x: Counts, at: &[u16], list: &[u8]) -> Reply
 pub fn check(s: &[u8], list: &[u8]) -> Reply
     ensures { λ r. ⌜ Checked (now (s .entry)) (now (list .entry)) r ⌝ }
 {
-    let o = sheet::reader::read(s);
+    let mut at = [0u16; SLOTS];
+    let mut t = [0u8; COLUMNS];
+    let mut q = [0u8; ROW_CELLS];
+    let o = sheet::reader::fill(s, &mut at, &mut t, &mut q);
     let reading = o.reading;
     let x = o.counts;
-    let at = o.at;
     match reading {
         Reading::Refused(n, p) => Reply::Refused(n, p),
-        Reading::Whole => weigh(s, x, &at, list),
+        Reading::Whole => weigh(s, x, &t, &q, list),
     }
 }
 

@@ -2,6 +2,9 @@
 --     ordered-first ordered-none           under `Begins`: what `first` finds is the first of all orders that meet the problem, or none does
 --     possible-meets possible-none         the same for `possible`
 --     answered-unique told-unique    two conforming answers are equal, buffers too
+--     clean-cleared clean-..               a clean scratch, and what a search from it leaves
+--     searched-first searched-from         cleared, and then searched
+--     searched-equal                       by an equal table of bars
 --     answered-unfit answered-fit ..       how the code's answers are made
 use Prim.Native.Nat.{ℕ, _+_, _-_, _≤_, min}
 use mathlib.Core.Path.{_≡_, refl, sym, ap, subst, _∙_}
@@ -22,7 +25,7 @@ use Rattle.orders.specs.Step.{Below, Runs, Dead}
 use Rattle.orders.specs.Inits.{Begins}
 use Rattle.orders.specs.Tables.{tabled}
 use Rattle.orders.specs.Answer.{Fits, Possible, Ordered, Told, Answered}
-use Rattle.orders.specs.Walk.{Starting, Walked, Descended, Searched}
+use Rattle.orders.specs.Walk.{Starting, Walked, Descended, Clean, Searched}
 use Rattle.orders.proofs.FirstLaws.{first-unique}
 use Rattle.orders.proofs.TrailLaws.{runs-length}
 use Rattle.orders.proofs.InitsLaws.{from-length, from-take, whole-first, whole-none, runs-whole}
@@ -129,25 +132,62 @@ clean-again n need scratch t u v l e c s r d =
     d ∙ ap (λ (x : ℕ). cleared x u) e
     ∙ cleared-again (bytesFor n) scratch u l (s ∙ ap length is ∙ length-cleared (bytesFor n) scratch l) (r ∙ ap (drop (bytesFor n)) is)
 
-pub searched : (P : Problem) (k : ℕ) (scratch : List ℕ) (need : ℕ) {t u v path : List ℕ} {r : Bool} → Fits k (P .events) (length scratch)
-    → need ≡ bytesFor (P .events - k) → t ≡ cleared need scratch → Walked P k t r u path → v ≡ cleared need u → Searched P k scratch r v path
-searched P k scratch need {t} {u} {v} f e c w d =
-    record {
-      clean = clean-again (P .events - k) need scratch t u v (f .scratch) e c (w .size) (w .rest) d;
-      found = w .found;
-      none = w .none;
-    }
+-- ---- a clean scratch
 
--- cleared, and then no mark was made
-module _ (P : Problem) (k : ℕ) (scratch : List ℕ) (need : ℕ) {t : List ℕ} (e : need ≡ bytesFor (P .events - k)) (c : t ≡ cleared need scratch) where
-  unmarked : t ≡ cleared (bytesFor (P .events - k)) scratch
+module _ (k m : ℕ) (scratch : List ℕ) (need : ℕ) {t : List ℕ} (f : Fits k m (length scratch)) (e : need ≡ bytesFor (m - k)) (c : t ≡ cleared need scratch) where
+  unmarked : t ≡ cleared (bytesFor (m - k)) scratch
   unmarked = c ∙ ap (λ (n : ℕ). cleared n scratch) e
 
-  pub searched-first : {path : List ℕ} {r : Bool} → r ≡ true → Descended P k r path → Searched P k scratch true t path
-  searched-first h d = record { clean = unmarked; found = λ z. d .found h; none = λ z. absurd (false≢true (sym z)) }
+  same-size : length t ≡ length scratch
+  same-size = ap length unmarked ∙ length-cleared (bytesFor (m - k)) scratch (f .scratch)
 
-  pub searched-none : {path : List ℕ} → Dead P (Below k) → Searched P k scratch false t path
-  searched-none d = record { clean = unmarked; found = λ z. absurd (false≢true z); none = λ z. d }
+  pub clean-cleared : Clean k m t
+  clean-cleared =
+      record {
+        inits = f .inits;
+        events = f .events;
+        room = let l = same-size in let s = f .scratch in omega arith;
+        blank = cleared-again (bytesFor (m - k)) scratch t (f .scratch) same-size (ap (drop (bytesFor (m - k))) unmarked) ∙ sym unmarked;
+      }
+
+module _ (P : Problem) (k : ℕ) (t : List ℕ) (c : Clean k (P .events) t) where
+  clean-fits : Fits k (P .events) (length t)
+  clean-fits = record { inits = c .inits; events = c .events; scratch = c .room }
+
+  pub clean-starts : (path : List ℕ) → slots ≤ length path → Starting P k t path
+  clean-starts path cells = starts P k t path t (bytesFor (P .events - k)) clean-fits cells refl (sym (c .blank))
+
+  -- no mark was made
+  pub clean-none : {path : List ℕ} → Dead P (Below k) → Searched P k t false t path
+  clean-none d = record { clean = sym (c .blank); found = λ z. absurd (false≢true z); none = λ z. d }
+
+  -- walked through, and cleared again
+  pub clean-walked : (need : ℕ) {u v path : List ℕ} {r : Bool} → need ≡ bytesFor (P .events - k) → Walked P k t r u path → v ≡ cleared need u → Searched P k t r v path
+  clean-walked need {u} {v} e w d =
+      record {
+        clean = clean-again (P .events - k) need t t u v (c .room) e (sym (c .blank) ∙ ap (λ (n : ℕ). cleared n t) (sym e)) (w .size) (w .rest) d;
+        found = w .found;
+        none = w .none;
+      }
+
+-- cleared, and then searched
+module _ (P : Problem) (k : ℕ) (scratch : List ℕ) (need : ℕ) {t : List ℕ} (f : Fits k (P .events) (length scratch)) (e : need ≡ bytesFor (P .events - k))
+    (c : t ≡ cleared need scratch) where
+  pub searched-first : {path : List ℕ} {r : Bool} → r ≡ true → Descended P k r path → Searched P k scratch true t path
+  searched-first h d = record { clean = unmarked k (P .events) scratch need f e c; found = λ z. d .found h; none = λ z. absurd (false≢true (sym z)) }
+
+  pub searched-from : {v path : List ℕ} {r : Bool} → Searched P k t r v path → Searched P k scratch r v path
+  searched-from s =
+      record {
+        clean = s .clean ∙ clean-cleared k (P .events) scratch need f e c .blank ∙ unmarked k (P .events) scratch need f e c;
+        found = s .found;
+        none = s .none;
+      }
+
+-- by an equal table of bars
+pub searched-equal : (m k : ℕ) (before bars bars′ scratch : List ℕ) {s path : List ℕ} {r : Bool} → bars ≡ bars′ → Searched (tabled m before bars) k scratch r s path
+    → Searched (tabled m before bars′) k scratch r s path
+searched-equal m k before bars bars′ scratch {s} {path} {r} e a = subst (λ (b : List ℕ). Searched (tabled m before b) k scratch r s path) e a
 
 module _ {k m : ℕ} {before bars scratch order : List ℕ} where
   pub answered-unfit : (Fits k m (length scratch) × (m ≤ length order) → ⊥) → Answered k m before bars scratch order false scratch order

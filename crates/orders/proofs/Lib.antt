@@ -13,3 +13,6 @@ pub mod SeekLaws
 pub mod AnswerLaws
 pub mod Promises
 pub mod ForcedLaws
+pub mod SameLaws
+pub mod ListedLaws
+pub mod GlideLaws

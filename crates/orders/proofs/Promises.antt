@@ -1,8 +1,9 @@
 -- The promises of specs/Promises.antt hold. Assumes nothing.
-use Rattle.orders.specs.Promises.{FirstIsFirst, FirstBegins, PossibleIsMeets, FirstAgrees, PossibleAgrees, StepsAreOrders, DeadEnds, FewerKeep}
+use Rattle.orders.specs.Promises.{FirstIsFirst, FirstBegins, PossibleIsMeets, FirstAgrees, PossibleAgrees, StepsAreOrders, DeadEnds, FewerKeep, SparedSame}
 use Rattle.orders.proofs.StepLaws.{dead-here}
 use Rattle.orders.proofs.OrderLaws.{meets-runs, runs-meets, meets-fewer}
 use Rattle.orders.proofs.InitsLaws.{first-inits}
+use Rattle.orders.proofs.SameLaws.{below-same}
 use Rattle.orders.proofs.AnswerLaws.{ordered-first, ordered-none, possible-meets, possible-none, answered-unique, told-unique}
 
 pub first-is-first : FirstIsFirst
@@ -28,3 +29,6 @@ dead-ends = dead-here
 
 pub fewer-keep : FewerKeep
 fewer-keep = meets-fewer
+
+pub spared-same : SparedSame
+spared-same = below-same

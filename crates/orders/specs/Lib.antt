@@ -8,3 +8,6 @@ pub mod Answer
 pub mod Walk
 pub mod Promises
 pub mod Forced
+pub mod Spare
+pub mod Listed
+pub mod steps

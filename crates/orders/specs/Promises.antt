@@ -6,6 +6,7 @@
 --     StepsAreOrders   one event at a time and whole orders say the same
 --     DeadEnds         a set from which every step leads to a dead set is dead
 --     FewerKeep        fewer bars and fewer constraints keep an order
+--     SparedSame       bars in which V has to come before W, which is no init, make no difference
 use Prim.Native.Nat.{ℕ, _<_, _≤_}
 use mathlib.Core.Path.{_≡_}
 use mathlib.Core.Bool.{Bool, true, false}
@@ -16,8 +17,9 @@ use Rattle.basis.specs.Test.{from}
 use Rattle.orders.specs.Problem.{Problem}
 use Rattle.orders.specs.Order.{Meets}
 use Rattle.orders.specs.First.{FirstOf}
-use Rattle.orders.specs.Step.{With, Ready, Runs, Dead}
+use Rattle.orders.specs.Step.{With, Below, Ready, Runs, Dead}
 use Rattle.orders.specs.Inits.{Begins}
+use Rattle.orders.specs.Spare.{Spares}
 use Rattle.orders.specs.Tables.{tabled}
 use Rattle.orders.specs.Answer.{Fits, Told, Answered}
 
@@ -60,3 +62,6 @@ abbrev pub FewerKeep : Type 1
 FewerKeep =
     (P Q : Problem) → Q .events ≡ P .events → ((a b : ℕ) → Q .Before a b → P .Before a b) → ((r w v : ℕ) → Q .Bar r w v → P .Bar r w v)
     → (l : List ℕ) → Meets P l → Meets Q l
+
+abbrev pub SparedSame : Type 1
+SparedSame = (P Q : Problem) (k : ℕ) → Spares P Q k → (l : List ℕ) → Runs P (Below k) l ↔ Runs Q (Below k) l

@@ -7,6 +7,8 @@
 --     Starting P k table path      what a walk starts from: room for the events, the sets and the path, and no set marked
 --     Walked P k ..                the end of a walk: in the path, the first list of the others that can be placed, or that there is none
 --     Descended P k ..             the end of a walk without marks: where all are placed, the path has the first list too
+--     LowestReady P k s r          r is the lowest event from k on that can be placed after those of s, or the number of events if there is none
+--     Clean k m scratch            a scratch with room for the sets, and no set marked
 --     Searched P k ..              a walk with a clean scratch, cleaned again
 use Prim.Native.Nat.{ℕ, _-_, _^_, _<_, _≤_}
 use mathlib.Core.Path.{_≡_}
@@ -48,6 +50,17 @@ pub record Walked (P : Problem) (k : ℕ) (table : List ℕ) (r : Bool) (table�
 
 pub record Descended (P : Problem) (k : ℕ) (r : Bool) (path′ : List ℕ) : Type 0 where
   pub found : r ≡ true → FirstOf (Runs P (Below k)) (take (P .events - k) path′)
+
+pub record LowestReady (P : Problem) (k s r : ℕ) : Type 0 where
+  pub bound : r ≤ P .events
+  pub ready : r < P .events → Ready P (Has s) r
+  pub none : (d : ℕ) → k ≤ d → d < r → Ready P (Has s) d → ⊥
+
+pub record Clean (k m : ℕ) (scratch : List ℕ) : Type 0 where
+  pub inits : k ≤ m
+  pub events : m ≤ slots
+  pub room : bytesFor (m - k) ≤ length scratch
+  pub blank : cleared (bytesFor (m - k)) scratch ≡ scratch
 
 pub record Searched (P : Problem) (k : ℕ) (scratch : List ℕ) (r : Bool) (scratch′ path′ : List ℕ) : Type 0 where
   pub clean : scratch′ ≡ cleared (bytesFor (P .events - k)) scratch

@@ -1,21 +1,24 @@
 // The first order in which all events can be placed, one at a time. A set of placed events is a mask, and the path is the stack.
 //
-// Tables: before[b] is the mask of the events that have to come before b; bars[v * 32 + w] is the mask of the r with a bar (r, w, v).
+// Tables: before[b] is the mask of the events that have to come before b; bars[v * 32 + w] is the mask of the r with a bar (r, w, v). A short list
+// of bars may stand for such a table.
 // The first `inits` of the `events` are the inits; the table of entered sets in the scratch has a bit for each set of the others.
 // No public function has a `requires`: what does not fit gets a stated answer, with nothing changed.
 use gather::PAIRS;
 use sets::SLOTS;
 ghost use mathlib.Core.Path.{_≡_};
 ghost use mathlib.Core.List.{_++_};
-ghost use Prim.Native.Nat.{_+_, _-_, _<_, _≤_};
+ghost use Prim.Native.Nat.{_+_, _-_, _*_, _^_, _<_, _≤_, min};
 ghost use lib.ListN.{length, getD, take, drop, replicate};
 ghost use Rattle.basis.specs.Test.{from};
 ghost use Rattle.sets.specs.Tells.{Tells};
-ghost use Rattle.sets.specs.Mask.{slots};
+ghost use Rattle.sets.specs.Mask.{slots, Within, full};
 ghost use Rattle.orders.specs.Tables.{tabled};
 ghost use Rattle.orders.specs.Answer.{Fits, Told, Answered};
 ghost use Rattle.gather.specs.Writers.{Writers};
-ghost use Rattle.orders.specs.Walk.{Gathered, Starting, Walked, Descended, Searched};
+ghost use Rattle.orders.specs.Walk.{Gathered, Starting, Walked, LowestReady, Descended, Clean, Searched};
+ghost use Rattle.orders.specs.Listed.{listRoom, listedBars};
+ghost use Rattle.orders.specs.steps.Glide.{Barred, LowestAfter};
 ghost use Rattle.orders.specs.Forced.{Forced, Led, Waited, Cyclic, Pressed};
 
 // ---- a walk through the sets
@@ -82,6 +85,116 @@ fn descend(
         depth += 1;
     }
     true
+}
+
+// ---- bars as a list
+
+// How many entries a list of bars has room for. Entry i has the bars (readers[i], writers[i], v), for each v of the set between[i].
+pub const LIST: usize = 32;
+
+// The event that an entry names.
+fn wide(e: u8) -> usize
+    ensures { λ r. ⌜ r ≡ e ⌝ }
+{
+    e as usize
+}
+
+// The events that one of the first n entries stops where the events of s are placed: its writer is, and its reader is not.
+fn barred(
+    between: &[u32; LIST],
+    readers: &[u8; LIST],
+    writers: &[u8; LIST],
+    n: usize,
+    s: u32,
+) -> u32
+    requires { ⌜ n ≤ listRoom ⌝ }
+    ensures { λ r. ⌜ Barred (now (between .entry)) (now (readers .entry)) (now (writers .entry)) n s r ⌝ }
+{
+    let mut c: u32 = 0;
+    for i in 0..n {
+        let on = sets::has(s, wide(writers[i])) & !sets::has(s, wide(readers[i]));
+        c = c | sets::only(on, between[i]);
+    }
+    c
+}
+
+// The lowest event of `left` of which all that has to come before is placed; m if there is none.
+fn lowest_of(m: usize, before: &[u32; SLOTS], s: u32, left: u32) -> usize
+    requires { ⌜ Within left (full m) ⌝ }
+    ensures { λ r. ⌜ LowestAfter m (now (before .entry)) s left r ⌝ }
+{
+    let mut rest = left;
+    while rest != 0 {
+        let v = sets::lowest(rest);
+        if sets::subset(before[v], s) {
+            return v;
+        }
+        rest = sets::without(rest, v);
+    }
+    m
+}
+
+// The lowest event from k on, below m, that can be placed after those of the set s; m if there is none.
+fn lowest_listed(
+    k: usize,
+    m: usize,
+    before: &[u32; SLOTS],
+    between: &[u32; LIST],
+    readers: &[u8; LIST],
+    writers: &[u8; LIST],
+    n: usize,
+    s: u32,
+) -> usize
+    requires { ⌜ (m ≤ slots) × (n ≤ listRoom) × (s < 2 ^ m) ⌝ }
+    ensures { λ r. ⌜ LowestReady (tabled m (now (before .entry)) (listedBars (now (between .entry)) (now (readers .entry)) (now (writers .entry)) n)) k s r ⌝ }
+{
+    let left = sets::rest(s, k, m) & !barred(between, readers, writers, n, s);
+    lowest_of(m, before, s, left)
+}
+
+// As `descend`, by a list of bars.
+fn glide(
+    k: usize,
+    m: usize,
+    before: &[u32; SLOTS],
+    between: &[u32; LIST],
+    readers: &[u8; LIST],
+    writers: &[u8; LIST],
+    n: usize,
+    path: &mut [u8],
+) -> bool
+    requires { ⌜ (k ≤ m) × (m ≤ slots) × (slots ≤ length (now path)) × (n ≤ listRoom) ⌝ }
+    ensures { λ r. ⌜ Descended (tabled m (now (before .entry)) (listedBars (now (between .entry)) (now (readers .entry)) (now (writers .entry)) n)) k r (now (path .exit)) ⌝ }
+{
+    let all = sets::full(m);
+    let mut s = sets::full(k);
+    let mut depth: usize = 0;
+    while s != all {
+        let e = lowest_listed(k, m, before, between, readers, writers, n, s);
+        if m <= e {
+            return false;
+        }
+        path[depth] = e as u8;
+        s = sets::with(s, e);
+        depth += 1;
+    }
+    true
+}
+
+// The bars of the first n entries, into a table of zeros.
+fn table(
+    between: &[u32; LIST],
+    readers: &[u8; LIST],
+    writers: &[u8; LIST],
+    n: usize,
+    bars: &mut [u32],
+)
+    requires { ⌜ (n ≤ listRoom) × (now bars ≡ replicate (slots * slots) 0) ⌝ }
+    ensures { λ _. ⌜ now (bars .exit) ≡ listedBars (now (between .entry)) (now (readers .entry)) (now (writers .entry)) n ⌝ }
+{
+    for i in 0..n {
+        cells::spread(bars, between[i], wide(writers[i]), wide(readers[i]));
+    }
 }
 
 // ---- what bars force
@@ -270,6 +383,39 @@ pub fn fits(inits: usize, events: usize, room: usize) -> bool
     marks::needed(events - inits) <= room
 }
 
+// The same where an order is asked for, which has to have a place for each event.
+fn takes(inits: usize, events: usize, room: usize, places: usize) -> bool
+    ensures { λ r. ⌜ Tells r (Fits inits events room × (events ≤ places)) ⌝ }
+{
+    if places < events {
+        return false;
+    }
+    fits(inits, events, room)
+}
+
+// From a clean scratch on, where no straight way was found: presses the bars, walks through the sets, and clears the marks.
+fn through(
+    k: usize,
+    m: usize,
+    before: &[u32; SLOTS],
+    bars: &[u32; PAIRS],
+    writers: &[u32; SLOTS],
+    scratch: &mut [u8],
+    path: &mut [u8],
+) -> bool
+    requires { ⌜ Clean k m (now scratch) × (slots ≤ length (now path)) × Gathered m (now bars) (now writers) ⌝ }
+    ensures { λ r. ⌜ Searched (tabled m (now (before .entry)) (now (bars .entry))) k (now (scratch .entry)) r (now (scratch .exit)) (now (path .exit)) ⌝ }
+{
+    let mut f = [0u32; SLOTS];
+    if force(k, m, before, bars, writers, &mut f) {
+        return false;
+    }
+    let found = walk(k, m, &f, bars, writers, scratch, path);
+    let need = marks::needed(m - k);
+    marks::clear(scratch, need); // the marks of this search
+    found
+}
+
 // Walks with a clean scratch, and cleans it again: whether all can be placed, and then in the path what comes after the inits.
 fn search(
     k: usize,
@@ -289,13 +435,52 @@ fn search(
     if descend(k, m, before, bars, &writers, path) {
         return true;
     }
-    let mut f = [0u32; SLOTS];
-    if force(k, m, before, bars, &writers, &mut f) {
-        return false;
+    through(k, m, before, bars, &writers, scratch, path)
+}
+
+// As `through`, by a list of bars: only here their table is made.
+fn through_listed(
+    k: usize,
+    m: usize,
+    before: &[u32; SLOTS],
+    between: &[u32; LIST],
+    readers: &[u8; LIST],
+    writers: &[u8; LIST],
+    n: usize,
+    scratch: &mut [u8],
+    path: &mut [u8],
+) -> bool
+    requires { ⌜ Clean k m (now scratch) × (slots ≤ length (now path)) × (n ≤ listRoom) ⌝ }
+    ensures { λ r. ⌜ Searched (tabled m (now (before .entry)) (listedBars (now (between .entry)) (now (readers .entry)) (now (writers .entry)) n)) k (now (scratch .entry)) r (now (scratch .exit)) (now (path .exit)) ⌝ }
+{
+    let mut bars = [0u32; PAIRS];
+    table(between, readers, writers, n, &mut bars);
+    let mut sources = [0u32; SLOTS];
+    gather::gather(m, &bars, &mut sources);
+    through(k, m, before, &bars, &sources, scratch, path)
+}
+
+// As `search`, by a list of bars.
+fn search_listed(
+    k: usize,
+    m: usize,
+    before: &[u32; SLOTS],
+    between: &[u32; LIST],
+    readers: &[u8; LIST],
+    writers: &[u8; LIST],
+    n: usize,
+    scratch: &mut [u8],
+    path: &mut [u8],
+) -> bool
+    requires { ⌜ Fits k m (length (now scratch)) × (slots ≤ length (now path)) × (n ≤ listRoom) ⌝ }
+    ensures { λ r. ⌜ Searched (tabled m (now (before .entry)) (listedBars (now (between .entry)) (now (readers .entry)) (now (writers .entry)) n)) k (now (scratch .entry)) r (now (scratch .exit)) (now (path .exit)) ⌝ }
+{
+    let need = marks::needed(m - k);
+    marks::clear(scratch, need); // whatever it held, here too
+    if glide(k, m, before, between, readers, writers, n, path) {
+        return true;
     }
-    let found = walk(k, m, &f, bars, &writers, scratch, path);
-    marks::clear(scratch, need); // the marks of this search
-    found
+    through_listed(k, m, before, between, readers, writers, n, scratch, path)
 }
 
 // The event at place i of the order that begins with k inits and goes on with the path.
@@ -331,10 +516,7 @@ pub fn first(
 ) -> bool
     ensures { λ r. ⌜ Answered inits events (now (before .entry)) (now (bars .entry)) (now (scratch .entry)) (now (order .entry)) r (now (scratch .exit)) (now (order .exit)) ⌝ }
 {
-    if !fits(inits, events, scratch.len()) {
-        return false;
-    }
-    if order.len() < events {
+    if !takes(inits, events, scratch.len(), order.len()) {
         return false;
     }
     let mut path = [0u8; SLOTS];
@@ -345,7 +527,43 @@ pub fn first(
     false
 }
 
-// Whether there is such an order.
+// The same by a list of bars, of which the first n entries count, as far as there is room for them. Where an order is soon found no table is made.
+pub fn first_listed(
+    inits: usize,
+    events: usize,
+    before: &[u32; SLOTS],
+    between: &[u32; LIST],
+    readers: &[u8; LIST],
+    writers: &[u8; LIST],
+    n: usize,
+    scratch: &mut [u8],
+    order: &mut [u8],
+) -> bool
+    ensures { λ r. ⌜ Answered inits events (now (before .entry)) (listedBars (now (between .entry)) (now (readers .entry)) (now (writers .entry)) (min n listRoom)) (now (scratch .entry)) (now (order .entry)) r (now (scratch .exit)) (now (order .exit)) ⌝ }
+{
+    if !takes(inits, events, scratch.len(), order.len()) {
+        return false;
+    }
+    let entries = sets::least(n, LIST);
+    let mut path = [0u8; SLOTS];
+    if search_listed(
+        inits,
+        events,
+        before,
+        between,
+        readers,
+        writers,
+        entries,
+        scratch,
+        &mut path,
+    ) {
+        write(inits, events, &path, order);
+        return true;
+    }
+    false
+}
+
+// Whether there is an order.
 pub fn possible(
     inits: usize,
     events: usize,

@@ -1,1 +1,2 @@
 pub mod OwnLaws
+pub mod LoneLaws

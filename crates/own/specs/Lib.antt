@@ -1,2 +1,3 @@
 pub mod Own
+pub mod Lone
 pub mod steps

@@ -12,9 +12,11 @@ ghost use mathlib.Core.Bool.{cond};
 ghost use Prim.Native.Nat.{_%_, min};
 ghost use lib.Dec.{eqb};
 ghost use Rattle.sets.specs.Mask.{slots};
+ghost use Rattle.sets.specs.Tells.{Tells};
 ghost use Rattle.cells.specs.Walk.{picked};
 ghost use Rattle.cells.specs.Cells.{placing};
 ghost use Rattle.own.specs.Own.{meetsIn, metIn, laterOf, earlierOf};
+ghost use Rattle.own.specs.Lone.{Lone};
 ghost use Rattle.own.specs.steps.ByAgent.{agentsIn, behindIn, aheadIn};
 
 // Shares an access of event e a byte with one of event d? Without a jump: which events an init meets is hard to foresee.
@@ -48,6 +50,18 @@ pub fn met(t: &[u8; COLUMNS], n: usize, e: usize) -> u32
         s = take(s, d, met_by(t, e, d));
     }
     s
+}
+
+// Has no event a second access? All slots are looked at, without a jump: a row may name any event.
+pub fn lone(t: &[u8; COLUMNS]) -> bool
+    ensures { λ r. ⌜ Tells r (Lone (now (t .entry)) slots) ⌝ }
+{
+    let mut c = 0;
+    for e in 0..SLOTS {
+        let a = tables::shape(t, 2 * e + 1);
+        c = c | a.width;
+    }
+    c == 0
 }
 
 // The mask of each agent gains its events below n.

@@ -1,45 +1,76 @@
 -- The laws of specs/Prepared.antt. Assumes nothing.
---     prepared-unique     two conforming results are equal: the tables, happens-before and the rule
-use mathlib.Core.Path.{_≡_, sym, ap, _∙_}
+--     ruled-bytes, ruled-found     how the code's answers are made: by 21, and by happens-before
+--     ruled-unique                 two conforming results are equal: happens-before and the rule, and the masks where none is broken
+use mathlib.Core.Path.{_≡_, refl, sym, ap, _∙_}
+use mathlib.Core.Bool.{Bool, true, false, false≢true}
 use mathlib.Core.List.{List}
 use Prim.Native.Nat.{ℕ, min}
+use lib.ListN.{replicate}
 use Rattle.entries.specs.declared.Counts.{Counts}
 use Rattle.sets.specs.Mask.{slots}
+use Rattle.answer.specs.declared.Names.{Names}
 use Rattle.answer.specs.declared.Rule.{Rule}
-use Rattle.tables.specs.Tables.{rowRoom, pairRoom}
-use Rattle.lay.specs.Lay.{rowsPut}
+use Rattle.answer.specs.declared.Rule.the-variants.{Kept, Breach}
+use Rattle.answer.proofs.RulesLaws.{also-here}
+use Rattle.tables.specs.Tables.{rowRoom, pairRoom, pairCells}
+use Rattle.lay.specs.Lay.{pairsPut}
+use Rattle.before.specs.Before.{ClosedSteps}
 use Rattle.before.proofs.BeforeLaws.{closed-steps-unique}
-use Rattle.prepare.specs.Prepared.{Prepared}
+use Rattle.before.proofs.ExistsLaws.{steps-exist}
+use Rattle.rules.specs.Rules.{rule21In, ruleIn}
+use Rattle.prepare.specs.Prepared.{Ruled}
 
-pub record Same (t u q v succ succ′ pred pred′ : List ℕ) (r a : Rule) : Type 0 where
-  pub accesses : t ≡ u
-  pub rows : q ≡ v
-  pub after : succ ≡ succ′
-  pub before : pred ≡ pred′
+-- a broken rule is none that is kept
+whole : Rule → Bool
+whole Kept = true
+whole (Breach n names) = false
+
+breach-kept : {n : ℕ} {names : Names} → Breach n names ≡ Kept → ⊥
+unfolding whole
+breach-kept z = false≢true (ap whole z)
+
+module _ (s : List ℕ) (x : Counts) (t q succ pred : List ℕ) where
+  abbrev table : List ℕ
+  table = pairsPut s x (min (x .pairs) pairRoom) (replicate pairCells 0)
+
+  -- 21 is broken, whatever happens before what
+  pub ruled-bytes : {n : ℕ} {names : Names} {rule : Rule} → rule ≡ rule21In q (min (x .rows) rowRoom) → rule ≡ Breach n names → {succ′ pred′ : List ℕ}
+      → Ruled s x t q succ succ′ pred pred′ (Breach n names)
+  unfolding ruleIn
+  ruled-bytes e h =
+      let m = steps-exist t (min (x .events) slots) q (min (x .rows) rowRoom) table (min (x .pairs) pairRoom) succ pred in
+      record { p = table; pairs = refl; after = m .0; before = m .1; ordered = m .2; says = also-here _ (sym h ∙ e); left = λ k. absurd (breach-kept k) }
+
+  pub ruled-found : {p : List ℕ} → p ≡ table → {succ′ pred′ : List ℕ}
+      → ClosedSteps t (min (x .events) slots) q (min (x .rows) rowRoom) p (min (x .pairs) pairRoom) succ succ′ pred pred′ → {r : Rule}
+      → r ≡ ruleIn t (min (x .events) slots) succ′ pred′ q (min (x .rows) rowRoom) → Ruled s x t q succ succ′ pred pred′ r
+  ruled-found {p} e {succ′} {pred′} o h = record { p = p; pairs = e; after = succ′; before = pred′; ordered = o; says = h; left = λ k. (refl, refl) }
+
+pub record Same {s : List ℕ} {x : Counts} {t q succ succ′ pred pred′ next prior : List ℕ} {r a : Rule} (w : Ruled s x t q succ succ′ pred pred′ r)
+    (z : Ruled s x t q succ next pred prior a) : Type 0 where
+  pub after : z .after ≡ w .after
+  pub before : z .before ≡ w .before
   pub rule : r ≡ a
+  pub masks : r ≡ Kept → (succ′ ≡ next) × (pred′ ≡ prior)
 
-module _ {s : List ℕ} {x : Counts} {at t q succ pred t′ q′ succ′ pred′ u v next prior : List ℕ} {r a : Rule}
-    (w : Prepared s x at t t′ q q′ succ succ′ pred pred′ r) (z : Prepared s x at t u q v succ next pred prior a) where
-  t-same : u ≡ t′
-  t-same = z .laid .events ∙ sym (w .laid .events)
-
-  q-same : v ≡ q′
-  q-same = z .laid .rows ∙ ap (λ (l : List ℕ). rowsPut s x at l (min (x .rows) rowRoom) q) t-same ∙ sym (w .laid .rows)
-
+module _ {s : List ℕ} {x : Counts} {t q succ succ′ pred pred′ next prior : List ℕ} {r a : Rule} (w : Ruled s x t q succ succ′ pred pred′ r)
+    (z : Ruled s x t q succ next pred prior a) where
   p-same : z .p ≡ w .p
-  p-same = z .laid .pairs ∙ sym (w .laid .pairs)
+  p-same = z .pairs ∙ sym (w .pairs)
 
-  masks-same : (next ≡ succ′) × (prior ≡ pred′)
-  masks-same =
-      closed-steps-unique t′ (min (x .events) slots) q′ (min (x .rows) rowRoom) (w .p) (min (x .pairs) pairRoom) succ pred next prior succ′ pred′
-      (rw (t-same, q-same, p-same) at (z .ordered)) (w .ordered)
+  steps-same : (z .after ≡ w .after) × (z .before ≡ w .before)
+  steps-same =
+      closed-steps-unique t (min (x .events) slots) q (min (x .rows) rowRoom) (w .p) (min (x .pairs) pairRoom) succ pred (z .after) (z .before) (w .after) (w .before)
+      (rw p-same at (z .ordered)) (w .ordered)
 
-  pub prepared-unique : Same t′ u q′ v succ′ next pred′ prior r a
-  prepared-unique =
+  rule-same : r ≡ a
+  rule-same = w .says ∙ sym (rw (steps-same .0, steps-same .1) at (z .says))
+
+  pub ruled-unique : Same w z
+  ruled-unique =
       record {
-        accesses = sym t-same;
-        rows = sym q-same;
-        after = sym (masks-same .0);
-        before = sym (masks-same .1);
-        rule = w .says ∙ sym (rw (t-same, q-same, masks-same .0, masks-same .1) at (z .says));
+        after = steps-same .0;
+        before = steps-same .1;
+        rule = rule-same;
+        masks = λ k. let m = w .left k in let n = z .left (sym rule-same ∙ k) in (m .0 ∙ sym (steps-same .0) ∙ sym (n .0), m .1 ∙ sym (steps-same .1) ∙ sym (n .1));
       }

@@ -1,5 +1,5 @@
 // Rows and pairs of the tables that every step of the judge works on (crates/tables): one of them read. No function has a `requires`: a row counts by its place
-// among 512, a pair by its place among 32.
+// among 288, a pair by its place among 32.
 use format::Pair;
 use format::Row;
 use tables::PAIR_CELLS;
@@ -11,24 +11,24 @@ ghost use Rattle.tables.specs.Tables.{rowRoom, rowIn, seenIn, wroteIn, pairRoom
 pub fn row(q: &[u8; ROW_CELLS], j: usize) -> Row
     ensures { λ r. ⌜ r ≡ rowIn (now (q .entry)) (j % rowRoom) ⌝ }
 {
-    let i = j % 512;
+    let i = j % 288;
     Row {
         reader: q[i] % 32,
-        address: q[512 + i],
-        writer: q[1024 + i] % 32,
+        address: q[288 + i],
+        writer: q[576 + i] % 32,
     }
 }
 
 pub fn seen(q: &[u8; ROW_CELLS], j: usize) -> u8
     ensures { λ r. ⌜ r ≡ seenIn (now (q .entry)) (j % rowRoom) ⌝ }
 {
-    q[1536 + j % 512]
+    q[864 + j % 288]
 }
 
 pub fn wrote(q: &[u8; ROW_CELLS], j: usize) -> u8
     ensures { λ r. ⌜ r ≡ wroteIn (now (q .entry)) (j % rowRoom) ⌝ }
 {
-    q[2048 + j % 512]
+    q[1152 + j % 288]
 }
 
 pub fn pair(p: &[u8; PAIR_CELLS], j: usize) -> Pair

@@ -2,19 +2,28 @@
 use answer::Names;
 use answer::Rule;
 use format::Row;
+use format::Shape;
 use sets::SLOTS;
 use sets::least;
+use tables::ACCESSES;
 use tables::COLUMNS;
 use tables::ROW_CELLS;
 use tables::ROWS;
-use torn::rule25;
 ghost use mathlib.Core.Path.{_≡_};
-ghost use Prim.Native.Nat.{ℕ, _%_, min};
+ghost use Prim.Native.Nat.{ℕ, _%_, _<_, min};
 ghost use Rattle.basis.specs.Test.{_and_};
+ghost use Rattle.sets.specs.Tells.{Tells};
 ghost use Rattle.sets.specs.Mask.{slots, mem};
 ghost use Rattle.cells.specs.First.{firstOf};
 ghost use Rattle.tables.specs.Tables.{rowRoom, writesIn};
 ghost use Rattle.rules.specs.Rules.{unlikeIn, cyclicIn, turnedIn, betweenIn, overIn, rule21In, rule22In, rule23In, rule24In, ruleIn};
+ghost use Rattle.rules.specs.steps.Cover.{nearRoom, Covered, farOf, Covering, mayWriteIn};
+ghost use Rattle.rules.specs.steps.Stirred.{Unlike, stirredIn, Surveyed};
+
+// The flat bytes of which it is known who writes them; and eight more, so that an access that begins among them ends within.
+const NEAR: usize = 64;
+
+const BYTES: usize = 72;
 
 // ---- 21, 22, 23
 
@@ -121,6 +130,96 @@ fn over(
     m
 }
 
+// ---- what may be amiss, noticed without a jump: most sheets break nothing
+
+// Does the byte seen differ from the byte written in some row?
+fn differ(q: &[u8; ROW_CELLS], n: usize) -> bool
+    ensures { λ r. ⌜ Tells r (Unlike (now (q .entry)) (min n rowRoom)) ⌝ }
+{
+    let m = least(n, ROWS);
+    let mut c = 0;
+    for j in 0..m {
+        c = c | (rows::seen(q, j) ^ rows::wrote(q, j));
+    }
+    c != 0
+}
+
+// The masks of the bytes from k on, as many as the width says and at most eight, gain x.
+fn cover(bytes: &mut [u32; BYTES], k: usize, width: u8, x: u32)
+    requires { ⌜ k < nearRoom ⌝ }
+    ensures { λ _. ⌜ Covered k (min width 8) x (now (bytes .entry)) (now (bytes .exit)) ⌝ }
+{
+    for i in 0..8usize {
+        bytes[k + i] = bytes[k + i] | sets::only(i < width as usize, x);
+    }
+}
+
+// Is more to be known of an event than the eight bytes from the start of its first access a on, by their places among 64? b is its second access.
+fn is_far(a: Shape, b: Shape) -> bool
+    ensures { λ r. ⌜ r ≡ farOf a b ⌝ }
+{
+    (8 < a.width) | ((63 < a.start) | (b.width != 0))
+}
+
+// For each of the first bytes the events below n whose first access writes it; the answer has those of which more is to be known, and all from n on.
+fn covering(t: &[u8; COLUMNS], n: usize, bytes: &mut [u32; BYTES]) -> u32
+    ensures { λ r. ⌜ Covering (now (t .entry)) (min n slots) (min n slots) (now (bytes .entry)) (now (bytes .exit)) r ⌝ }
+{
+    let m = least(n, SLOTS);
+    let mut far = !sets::full(m);
+    for e in 0..m {
+        let a = tables::shape(t, 2 * e);
+        let b = tables::shape(t, 2 * e + 1);
+        far = cells::take(far, e, is_far(a, b));
+        let x = cells::take(0, e, access::writes(a));
+        cover(bytes, a.start as usize % NEAR, a.width, x);
+    }
+    far
+}
+
+// The events that may write the flat byte a.
+fn may_write(far: u32, bytes: &[u32; BYTES], a: u8) -> u32
+    ensures { λ r. ⌜ r ≡ mayWriteIn far (now (bytes .entry)) a ⌝ }
+{
+    let i = a as usize;
+    if i < NEAR {
+        return far | bytes[i];
+    }
+    4294967295
+}
+
+// What may be amiss with a row: 23, its reader happens before its writer; 24, what lies between the two and may write its byte.
+fn stirred(r: Row, succ: &[u32; SLOTS], pred: &[u32; SLOTS], far: u32, bytes: &[u32; BYTES]) -> u32
+    ensures { λ x. ⌜ x ≡ stirredIn (now (succ .entry)) (now (pred .entry)) far (now (bytes .entry)) r ⌝ }
+{
+    let e = r.reader as usize % SLOTS;
+    let w = r.writer as usize % SLOTS;
+    sets::only(sets::has(succ[e], w), 1) | (succ[w] & pred[e] & may_write(far, bytes, r.address))
+}
+
+// Is something amiss with a row, of the first n? The masks of 25 are filled by the way.
+fn survey(
+    t: &[u8; COLUMNS],
+    q: &[u8; ROW_CELLS],
+    n: usize,
+    succ: &[u32; SLOTS],
+    pred: &[u32; SLOTS],
+    far: u32,
+    bytes: &[u32; BYTES],
+    masks: &mut [u32; ACCESSES],
+) -> bool
+    ensures { λ r. ⌜ Surveyed (now (t .entry)) (now (q .entry)) (min n rowRoom) (now (succ .entry)) (now (pred .entry)) far (now (bytes .entry)) (now (masks .entry)) (now (masks .exit)) r ⌝ }
+{
+    let m = least(n, ROWS);
+    let mut c = 0;
+    for j in 0..m {
+        let r = rows::row(q, j);
+        c = c | stirred(r, succ, pred, far, bytes);
+        torn::note_row(t, r, masks);
+    }
+    c != 0
+}
+
 // ---- the first that is broken
 
 fn rule21(q: &[u8; ROW_CELLS], n: usize) -> Rule
@@ -173,7 +272,17 @@ fn rule24(
     Rule::Kept
 }
 
-// The first rule of 21 to 25 that is broken, each tested over all rows before the next.
+// 21 alone: it asks for no happens-before. Most sheets keep it, and one test over all rows tells.
+pub fn bytes(q: &[u8; ROW_CELLS], n: usize) -> Rule
+    ensures { λ r. ⌜ r ≡ rule21In (now (q .entry)) (min n rowRoom) ⌝ }
+{
+    if differ(q, n) {
+        return rule21(q, n);
+    }
+    Rule::Kept
+}
+
+// The first rule of 21 to 25 that is broken, each tested over all rows before the next. Where nothing of 23 and 24 was noticed, they are not tested.
 pub fn first_broken(
     t: &[u8; COLUMNS],
     events: usize,
@@ -184,13 +293,18 @@ pub fn first_broken(
 ) -> Rule
     ensures { λ r. ⌜ r ≡ ruleIn (now (t .entry)) (min events slots) (now (succ .entry)) (now (pred .entry)) (now (q .entry)) (min rows rowRoom) ⌝ }
 {
-    let a = rule21(q, rows);
-    if let Rule::Breach(n, names) = a {
-        return Rule::Breach(n, names);
+    if differ(q, rows) {
+        return rule21(q, rows);
     }
     let b = rule22(succ, events);
     if let Rule::Breach(n, names) = b {
         return Rule::Breach(n, names);
+    }
+    let mut bytes = [0u32; BYTES];
+    let far = covering(t, events, &mut bytes);
+    let mut masks = [0u32; ACCESSES];
+    if !survey(t, q, rows, succ, pred, far, &bytes, &mut masks) {
+        return torn::named(&masks, events);
     }
     let c = rule23(q, rows, succ);
     if let Rule::Breach(n, names) = c {
@@ -200,5 +314,5 @@ pub fn first_broken(
     if let Rule::Breach(n, names) = d {
         return Rule::Breach(n, names);
     }
-    rule25(t, events, q, rows)
+    torn::named(&masks, events)
 }

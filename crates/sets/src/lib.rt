@@ -1,5 +1,6 @@
 // Sets of events as masks. No public function has a `requires`.
 ghost use mathlib.Core.Path.{_≡_};
+ghost use mathlib.Core.Bool.{cond};
 ghost use Prim.Native.Nat.{_%_, min};
 ghost use Rattle.sets.specs.Tells.{Tells};
 ghost use Rattle.sets.specs.Mask.{slots, mem, Within, insert, remove, full, above, Lowest, Rest};
@@ -61,6 +62,13 @@ pub fn rest(s: u32, from: usize, n: usize) -> u32
     ensures { λ r. ⌜ Rest s from (min n slots) r ⌝ }
 {
     full(n) & !full(from) & !s
+}
+
+// The set m where a test passed, else none.
+pub fn only(test: bool, m: u32) -> u32
+    ensures { λ r. ⌜ r ≡ cond test m 0 ⌝ }
+{
+    if test { m } else { 0 }
 }
 
 // The lesser of two numbers.

@@ -1,9 +1,10 @@
 -- Two outcomes that the reader's contract allows for the same bytes are equal, struct and places too. Assumes nothing.
 --     handed-unique : Handed s o → Handed s o′ → o ≡ o′
+--     filled-unique, filled-same     what is read where the tables are filled as well; of a whole sheet the places and the tables
 use mathlib.Core.Path.{_≡_, refl, sym, ap, _∙_}
 use mathlib.Core.Bool.{Bool, true, false}
 use mathlib.Core.List.{List}
-use Prim.Native.Nat.{ℕ, suc, _+_, _-_, _<_, _≤_}
+use Prim.Native.Nat.{ℕ, suc, _+_, _-_, _<_, _≤_, min}
 use native.Mathlib.Omega.{arith}
 use borrow.Author.Tests.{ltb-true, ltb-false}
 use lib.Dec.{ltb}
@@ -16,11 +17,15 @@ use Rattle.format.specs.Field.{fieldPlace}
 use Rattle.sheet.specs.declared.Reading.{Reading}
 use Rattle.sheet.specs.declared.Reading.the-variants.{Refused, Whole}
 use Rattle.sheet.specs.declared.Outcome.{Outcome}
+use Rattle.sheet.specs.declared.Read.{Read}
 use Rattle.parse.specs.Parse.{refused, whole}
 use Rattle.entries.specs.declared.Counts.{Counts}
 use Rattle.entries.specs.Entries.{execution}
 use Rattle.entries.proofs.EntriesLaws.{events-count, rows-count, pairs-count}
-use Rattle.sheet.specs.Handed.{Laid, HandedAs, Handed}
+use Rattle.tables.specs.Tables.{rowRoom}
+use Rattle.lay.specs.Lay.{eventsPut, rowsPut}
+use Rattle.sheet.specs.Handed.{blankPlaces, Laid, HandedAs, Handed}
+use Rattle.sheet.specs.Filled.{FilledWhole, FilledAs, Filled}
 
 -- the same fields, the same struct
 counts-path : {h h′ : Head} {i i′ e e′ ra ra′ r r′ pa pa′ p p′ : ℕ} → h ≡ h′ → i ≡ i′ → e ≡ e′ → ra ≡ ra′ → r ≡ r′ → pa ≡ pa′ → p ≡ p′
@@ -93,3 +98,35 @@ as-unique s Whole Whole x y at bt a b =
 
 pub handed-unique : (s : List ℕ) (o q : Outcome) → Handed s o → Handed s q → o ≡ q
 handed-unique s o q a b = as-unique s (o .reading) (q .reading) (o .counts) (q .counts) (o .at) (q .at) a b
+
+-- ---- where the tables are filled as well
+
+-- the places, blank beside a refusal
+abbrev kept : Reading → List ℕ → List ℕ
+kept (Refused n p) at = blankPlaces
+kept Whole at = at
+
+handed-of : (s : List ℕ) (r : Reading) (x : Counts) (at t t′ q q′ : List ℕ) → FilledAs s r x at t t′ q q′ → HandedAs s r x (kept r at)
+handed-of s (Refused n p) x at t t′ q q′ a = record { says = a .says; no-counts = a .no-counts; no-places = refl }
+handed-of s Whole x at t t′ q q′ a = a .handed
+
+pub filled-unique : (s : List ℕ) (r g : Read) (at bt t t′ t″ q q′ q″ : List ℕ) → Filled s r at t t′ q q′ → Filled s g bt t t″ q q″ → r ≡ g
+filled-unique s r g at bt t t′ t″ q q′ q″ a b =
+    ap {B = Read} (λ (o : Outcome). record { reading = o .reading; counts = o .counts })
+    (as-unique s (r .reading) (g .reading) (r .counts) (g .counts) (kept (r .reading) at) (kept (g .reading) bt)
+    (handed-of s (r .reading) (r .counts) at t t′ q q′ a) (handed-of s (g .reading) (g .counts) bt t t″ q q″ b))
+
+pub filled-same : (s : List ℕ) (x y : Counts) (at bt t t′ t″ q q′ q″ : List ℕ) → FilledWhole s x at t t′ q q′ → FilledWhole s y bt t t″ q q″
+    → (at ≡ bt) × (t′ ≡ t″) × (q′ ≡ q″)
+filled-same s x y at bt t t′ t″ q q′ q″ a b =
+    let w : whole (execution s x at) ≡ whole (execution s y bt) = sym (a .handed .says) ∙ b .handed .says in
+    let f : execution s x at ≡ execution s y bt = cc w in
+    let c = counts-same s x y at bt (a .handed .laid) (b .handed .laid) f in
+    let p = places-same s x y at bt (a .handed .laid) (b .handed .laid) f in
+    let u : t′ ≡ t″ =
+    a .events ∙ ap (λ (z : Counts). eventsPut s (z .head .edition) at (min (z .events) slots) t) c ∙ ap (λ (l : List ℕ). eventsPut s (y .head .edition) l (min (y .events) slots) t) p ∙ sym (b .events) in (
+      p,
+      u,
+      a .rows ∙ ap (λ (z : Counts). rowsPut s z at t′ (min (z .rows) rowRoom) q) c ∙ ap (λ (l : List ℕ). rowsPut s y l t′ (min (y .rows) rowRoom) q) p
+          ∙ ap (λ (l : List ℕ). rowsPut s y bt l (min (y .rows) rowRoom) q) u ∙ sym (b .rows),
+    )

@@ -1,8 +1,8 @@
 -- What is handed over, by the way that it came. Assumes nothing.
 --     laid-of                       a whole sheet's counts and places
 --     place-found                   the place of the event that lacks a row
---     handed-refusal, handed-whole  the reader's outcome
-use Prim.Native.Nat.{ℕ, _<_}
+--     read-refusal, read-whole      what is read
+use Prim.Native.Nat.{ℕ, _<_, min}
 use mathlib.Core.Path.{_≡_, refl, sym, ap, _∙_}
 use mathlib.Core.List.{List}
 use mathlib.Core.Option.{some}
@@ -12,13 +12,19 @@ use lib.Seq.{getD-take}
 use Rattle.parse.specs.Parse.{refused, whole, lowestLacking, completed, placeOf, finish, parse}
 use Rattle.parse.proofs.LackLaws.{lacking-there}
 use Rattle.parse.proofs.ParseLaws.{finished-whole}
+use Rattle.parse.proofs.PromiseLaws.{promise}
+use Rattle.parse.proofs.CountLaws.{rows-few}
 use Rattle.entries.specs.declared.Counts.{Counts}
 use Rattle.entries.specs.Entries.{execution}
-use Rattle.entries.proofs.EntriesLaws.{events-count}
+use Rattle.entries.proofs.EntriesLaws.{events-count, rows-count}
 use Rattle.faults.specs.Faults.{view, Counted}
-use Rattle.sheet.specs.declared.Outcome.{Outcome}
-use Rattle.sheet.specs.Handed.{Laid, Handed, HandedWhole}
-use Rattle.sheet.specs.steps.Between.{Through, refusal}
+use Rattle.sets.specs.Mask.{slots}
+use Rattle.tables.specs.Tables.{rowRoom}
+use Rattle.lay.specs.Lay.{eventsPut, rowsPut}
+use Rattle.sheet.specs.declared.Read.{Read}
+use Rattle.sheet.specs.Handed.{Laid, HandedWhole}
+use Rattle.sheet.specs.Filled.{Filled, FilledWhole}
+use Rattle.sheet.specs.steps.Between.{Through, Tabled, refusal}
 
 -- what a whole sheet's counts and places are
 pub laid-of : (s : List ℕ) (last : ℕ) (x : Counts) (at : List ℕ) → Through s last x at → (last ≡ 0 → ⊥) → Laid s x at
@@ -41,11 +47,27 @@ place-found s last x at e k l =
     let c = events-count s (x .head .edition) (x .events) at (k .room) in
     ap (λ (p : ℕ). refused 11 (placeOf 11 p)) (getD-take (x .events) at e 0 (omega arith))
 
--- the reader's outcome, by the way that it came
-pub handed-refusal : (s : List ℕ) (n p : ℕ) (o : Outcome) → o ≡ refusal n p → parse s ≡ refused n p → Handed s o
-handed-refusal s n p o e h = rw e (record { says = h; no-counts = refl; no-places = refl })
+-- what is read, by the way that it came
+pub read-refusal : (s : List ℕ) (n p : ℕ) (r : Read) → r ≡ refusal n p → parse s ≡ refused n p → (at t t′ q q′ : List ℕ) → Filled s r at t t′ q q′
+read-refusal s n p r e h at t t′ q q′ = rw e (record { says = h; no-counts = refl })
 
-pub handed-whole : (s : List ℕ) (last : ℕ) (x : Counts) (at : List ℕ) → Through s last x at → whole (execution s x at) ≡ finish s (view s last x at)
+handed-whole : (s : List ℕ) (last : ℕ) (x : Counts) (at : List ℕ) → Through s last x at → whole (execution s x at) ≡ finish s (view s last x at)
     → HandedWhole s x at
 handed-whole s last x at t e =
     record { says = t .goes ∙ sym e; laid = laid-of s last x at t (λ z. let b = finished-whole s (view s last x at) (execution s x at) (sym e) .tagged in omega arith) }
+
+pub read-whole : (s : List ℕ) (last : ℕ) (x : Counts) (at t t′ q q′ : List ℕ) → Through s last x at → Tabled s x at t t′ q q′
+    → whole (execution s x at) ≡ finish s (view s last x at) → FilledWhole s x at t t′ q q′
+read-whole s last x at t t′ q q′ h d e =
+    let w = handed-whole s last x at h e in
+    let f = w .laid .few in
+    let c = events-count s (x .head .edition) (x .events) at (let z = w .laid .size in omega arith) in
+    let r = rows-count s (x .head .edition) (x .«rows_at») (x .rows) in
+    let k = rows-few (execution s x at) (promise s (execution s x at) (w .says)) in
+    let n : x .events ≡ min (x .events) slots = omega arith in
+    let m : x .rows ≡ min (x .rows) rowRoom = omega arith in
+    record {
+      handed = w;
+      events = d .events ∙ ap (λ (i : ℕ). eventsPut s (x .head .edition) at i t) n;
+      rows = d .rows ∙ ap (λ (i : ℕ). rowsPut s x at t′ i q) m;
+    }

@@ -4,3 +4,5 @@ pub mod CompleteLaws
 pub mod AgreementLaws
 pub mod TallyLaws
 pub mod PlainLaws
+pub mod TabledLaws
+pub mod GrowingLaws

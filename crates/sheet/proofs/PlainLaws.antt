@@ -2,7 +2,7 @@
 --     head-reach, head-next                             the head
 --     plain-reach, plain-few, plain-here, plain-next    an event; the tally with it: plain-tally
 --     row-reach, row-room, row-next                     a row
---     place-below, place-there                          an event's place, below that of the field at p; it is among the places
+--     place-there                                       an event's place is among the places
 --     rises-first, rises-then                           a row above the one before
 --     row-tested, row-plain                                       what passes the tests of a row
 use Prim.Native.Nat.{ℕ, zero, suc, _+_, _-_, _*_, _≤_, _<_}
@@ -117,32 +117,7 @@ module _ (s : List ℕ) (p last : ℕ) (x : Counts) (at : List ℕ) (t : Turn s 
       subst (λ (tag : ℕ). Turn s (nextAt s p) tag (withRow x (nextAt s p)) at) (e .tag)
       (turn-next s p last x at t _ _ _ h refl (e .clean last w) (row-taken s p last x at row-ready (e .tag)))
 
--- a later field's place
-place-grows : (s : List ℕ) (j k : ℕ) → j < k → fieldPlace s j + 3 ≤ fieldPlace s k
-unfolding fieldPlace
-place-grows s j zero h = absurd (omega arith)
-place-grows s j (suc k) h = go (place-grows s j k) (eq-or-lt-of-le (omega arith))
-  where
-    go : (j < k → fieldPlace s j + 3 ≤ fieldPlace s k) → (j ≡ k) ⊎ (j < k) → fieldPlace s j + 3 ≤ nextAt s (fieldPlace s k)
-    go f (inl e) = let g : fieldPlace s j ≡ fieldPlace s k = ap (fieldPlace s) e in omega arith
-    go f (inr l) = let g = f l in omega arith
-
 module _ (s : List ℕ) (p last : ℕ) (x : Counts) (at : List ℕ) (b : Between s p last x at) (i : ℕ) (h : i < x .events) where
-  late : 2 ≤ last
-  late = go (decLt last 2)
-    where
-      go : Dec (last < 2) → 2 ≤ last
-      go (yes l) = absurd (let n = b .no-events l in omega arith)
-      go (no g) = omega arith
-
-  pub place-below : getD at i 0 + 3 ≤ p
-  place-below =
-      let l = late in
-      let f = b .here (omega arith) in
-      let e = b .places i h in
-      let g = place-grows s (suc i) (suc (x .events + x .rows + x .pairs)) (omega arith) in
-      omega arith
-
   pub place-there : i < length at
   place-there = let z = b .size in let f = b .few-inits in let o = b .few-others in omega arith
 

@@ -1,6 +1,7 @@
 -- The tally of the events so far, and what it tells at the end. Assumes nothing.
 --     tallied-start, tally-next     of no event; behind one field more
---     tally-made                    with one event more, as the code makes it
+--     tally-made, tally-any         with one event more, as the code makes it; by any edition
+--     by-test, at-most              a number, or nothing
 --     tally-room                    room for one event's bytes more
 --     told-some                     where bytes are read, some event reads
 --     told-missing                  agents that the head promises and that have no event
@@ -11,6 +12,8 @@ use mathlib.Core.Bool.{Bool, true, false, cond, not, _&&_, false≢true}
 use mathlib.Core.List.{List, [], _∷_, _++_}
 use mathlib.Core.Option.{none}
 use native.Mathlib.Omega.{arith}
+use native.Mathlib.Nat.{one-mul, zero-mul}
+use mir.Val.{boolByte}
 use borrow.Author.Tests.{eqb-true, eqb-false, ltb-false, ne-eqb}
 use lib.Dec.{eqb, ltb}
 use lib.ListN.{length, length-append}
@@ -80,6 +83,22 @@ tally-made s p t b m e f = tally-path (omega arith) f
 any-edition : (s : List ℕ) (edition p : ℕ) (t : Tally) → tallyWith t (eventAt s 2 p) ≡ tallyWith t (eventAt s edition p)
 unfolding readWidth reads
 any-edition s edition p t = refl
+
+pub tally-any : (s : List ℕ) (edition p : ℕ) (t : Tally) (b m : ℕ)
+    → b ≡ cond (reads (shapeOf edition (restAt s p))) (shapeOf edition (restAt s p) .width) 0
+    → m ≡ cond (ltb (agentOf (restAt s p)) slots) (insert (t .agents) (agentOf (restAt s p))) (t .agents)
+    → _≡_ {A = Tally} (record { bytes = t .bytes + b; agents = m }) (tallyWith t (eventAt s 2 p))
+unfolding reads
+tally-any s edition p t b m e f = tally-made s p t b m e f
+
+-- a number, or nothing
+pub by-test : (b : Bool) (w : ℕ) → boolByte b * w ≡ cond b w 0
+by-test true w = one-mul w
+by-test false w = zero-mul w
+
+pub at-most : (b : Bool) (w : ℕ) → w ≤ 255 → cond b w 0 ≤ 255
+at-most true w h = h
+at-most false w h = omega arith
 
 module _ (x : Execution) (tag : ℕ) (v : List ℕ) where
   taken-event : eqb tag 2 ≡ true → taken x tag v .events ≡ x .events ++ (eventOf (x .head .edition) v ∷ [])

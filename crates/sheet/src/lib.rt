@@ -36,3 +36,9 @@ pub struct Outcome {
     pub counts: Counts,
     pub at: [u16; SLOTS],
 }
+
+// What was read: a refusal, or a whole sheet with its counts.
+pub struct Read {
+    pub reading: Reading,
+    pub counts: Counts,
+}

@@ -1,5 +1,6 @@
 // The reader: the fields front to back, and what is tested after all of them.
 use crate::Outcome;
+use crate::Read;
 use crate::Reading;
 use crate::Scan;
 use crate::Spot;
@@ -13,11 +14,15 @@ use format::field;
 use format::field::FIELD_BYTES;
 use lacking::Lack;
 use sets::SLOTS;
+use tables::COLUMNS;
+use tables::ROW_CELLS;
+use tables::ROWS;
 ghost use mathlib.Core.Path.{_≡_};
 ghost use mathlib.Core.Bool.{true, cond};
-ghost use Prim.Native.Nat.{_+_, _*_, _≤_, _<_};
+ghost use mathlib.Core.List.{List};
+ghost use Prim.Native.Nat.{ℕ, _+_, _*_, _≤_, _<_};
 ghost use lib.Dec.{eqb, ltb};
-ghost use lib.ListN.{length, replicate};
+ghost use lib.ListN.{length, getD, replicate, set};
 ghost use Rattle.basis.specs.Test.{any};
 ghost use Rattle.sets.specs.Mask.{slots, insert};
 ghost use Rattle.format.specs.Limits.{maxBytes};
@@ -30,8 +35,11 @@ ghost use Rattle.parse.specs.Parse.{missing, lowestLacking, finish};
 ghost use Rattle.entries.specs.Entries.{eventAt, eventsIn, rowsIn, execution};
 ghost use Rattle.lacking.specs.Lacking.{lackOf};
 ghost use Rattle.sheet.specs.Handed.{blankCounts, blankPlaces, Handed};
-ghost use Rattle.faults.specs.Faults.{view};
-ghost use Rattle.sheet.specs.steps.Between.{Ready, Advanced, Turn, Tallied, tallyWith, Stands, PlainRow, withHead, withEvent, withRow, withPair, Through, Scanned, parsedOf, refusal};
+ghost use Rattle.sheet.specs.Filled.{Filled};
+ghost use Rattle.tables.specs.Tables.{putting};
+ghost use Rattle.row_data.specs.RowData.{dataAt, passed};
+ghost use Rattle.faults.specs.Faults.{view, frontBytes};
+ghost use Rattle.sheet.specs.steps.Between.{Ready, Advanced, Turn, Tallied, tallyWith, Stands, Tabled, Carried, Grown, Shaped, TakenEvent, KnownRow, JoinedRow, TakenRow, withHead, behind, withEvent, withRow, withRows, withPair, Through, Scanned, parsedOf, refusal};
 
 // ---- the counts behind a field
 
@@ -45,6 +53,21 @@ fn with_head(h: Head, next: u16) -> Counts
         rows_at: next,
         rows: 0,
         pairs_at: next,
+        pairs: 0,
+    }
+}
+
+// The counts behind n events, k of them inits, up to the place p.
+fn behind(h: Head, k: u8, n: u8, p: u16) -> Counts
+    ensures { λ r. ⌜ r ≡ behind h k n p ⌝ }
+{
+    Counts {
+        head: h,
+        inits: k,
+        events: n,
+        rows_at: p,
+        rows: 0,
+        pairs_at: p,
         pairs: 0,
     }
 }
@@ -94,6 +117,22 @@ fn with_row(x: Counts, next: u16) -> Counts
     }
 }
 
+// The counts x with n rows, up to the place p.
+fn with_rows(x: Counts, n: u16, p: u16) -> Counts
+    ensures { λ r. ⌜ r ≡ withRows x n p ⌝ }
+{
+    let h = x.head;
+    Counts {
+        head: h,
+        inits: x.inits,
+        events: x.events,
+        rows_at: x.rows_at,
+        rows: n,
+        pairs_at: p,
+        pairs: 0,
+    }
+}
+
 fn with_pair(x: Counts) -> Counts
     requires { ⌜ x .pairs < maxBytes ⌝ }
     ensures { λ r. ⌜ r ≡ withPair x ⌝ }
@@ -117,10 +156,29 @@ fn next_at(s: &[u8], p: u16) -> u16
     p + FIELD_BYTES as u16 + field::length_at(s, p as u32)
 }
 
-// The counts behind the field at p, which has no fault; an event's place is kept.
-fn after(s: &[u8], p: u16, last: u8, x: Counts, at: &mut [u16]) -> Counts
+// Event n, whose field stands at p: its place is kept, and its agent and its access go into the table.
+fn lay_event(p: u16, n: u8, agent: u8, a: Shape, at: &mut [u16], t: &mut [u8])
+    requires { ⌜ (n < slots) × (length (now at) ≡ slots) ⌝ }
+    ensures { λ _. ⌜ (now (at .exit) ≡ set (now (at .entry)) n p) × (now (t .exit) ≡ putting (set (now (t .entry)) n agent) (2 * n) a) ⌝ }
+{
+    let i = n as usize;
+    at[i] = p;
+    store::put_agent(t, i, agent);
+    store::put_access(t, 2 * i, a);
+}
+
+// The counts behind the field at p, which has no fault; an event or a row goes into its table.
+fn after(
+    s: &[u8],
+    p: u16,
+    last: u8,
+    x: Counts,
+    at: &mut [u16],
+    t: &mut [u8],
+    q: &mut [u8],
+) -> Counts
     requires { ⌜ Ready (now s) p last x (now at) ⌝ }
-    ensures { λ r. ⌜ Advanced (now (s .entry)) p last x (now (at .entry)) r (now (at .exit)) ⌝ }
+    ensures { λ r. ⌜ Advanced (now (s .entry)) p last x (now (at .entry)) r (now (at .exit)) × Carried (now (s .entry)) x (now (at .entry)) (now (t .entry)) (now (q .entry)) r (now (at .exit)) (now (t .exit)) (now (q .exit)) ⌝ }
 {
     let tag = field::byte(s, p as usize);
     let next = next_at(s, p);
@@ -128,11 +186,15 @@ fn after(s: &[u8], p: u16, last: u8, x: Counts, at: &mut [u16]) -> Counts
     match tag {
         1 => with_head(layout::head_of(field::byte(v, 0), v), next),
         2 => {
-            let i = x.events as usize;
-            at[i] = p;
+            let agent = entries::agent_at(s, p);
+            let a = entries::shape_at(s, x.head.edition, p);
+            lay_event(p, x.events, agent, a, at, t);
             with_event(x, field::byte(v, 0), next)
         }
-        3 => with_row(x, next),
+        3 => {
+            row_data::row(s, x, at, t, x.rows, q);
+            with_row(x, next)
+        }
         4 => with_pair(x),
         _ => x,
     }
@@ -202,7 +264,7 @@ fn tally_after(s: &[u8], p: u16, t: Tally) -> Tally
 
 fn begin(s: &[u8]) -> Spot
     requires { ⌜ length (now s) ≤ maxBytes ⌝ }
-    ensures { λ r. ⌜ Stands (now (s .entry)) r blankPlaces ⌝ }
+    ensures { λ r. ⌜ Stands (now (s .entry)) r blankPlaces × ((t q : List ℕ) → Tabled (now (s .entry)) (r .x) blankPlaces t t q q) ⌝ }
 {
     let plain = faults::plain_head(s);
     if !plain {
@@ -229,81 +291,6 @@ fn begin(s: &[u8]) -> Spot
     }
 }
 
-fn inits(s: &[u8], q: Spot, at: &mut [u16]) -> Spot
-    requires { ⌜ Stands (now s) q (now at) ⌝ }
-    ensures { λ r. ⌜ Stands (now (s .entry)) r (now (at .exit)) ⌝ }
-{
-    let mut x = q.x;
-    let mut t = q.t;
-    let mut last = q.last;
-    let mut p = q.p;
-    if last != 1 {
-        return q;
-    }
-    while (p as usize) < s.len() {
-        let plain = faults::plain_init(s, p, x, at);
-        if !plain {
-            return Spot {
-                p: p,
-                last: last,
-                x: x,
-                t: t,
-            };
-        }
-        let next = next_at(s, p);
-        let i = x.events as usize;
-        at[i] = p;
-        t = tallied(s, p, t);
-        x = with_event(x, 0, next);
-        last = 2;
-        p = next;
-    }
-    Spot {
-        p: p,
-        last: last,
-        x: x,
-        t: t,
-    }
-}
-
-fn events(s: &[u8], q: Spot, at: &mut [u16]) -> Spot
-    requires { ⌜ Stands (now s) q (now at) ⌝ }
-    ensures { λ r. ⌜ Stands (now (s .entry)) r (now (at .exit)) ⌝ }
-{
-    let mut x = q.x;
-    let mut t = q.t;
-    let mut last = q.last;
-    let mut p = q.p;
-    let here = content::within(1, 2, last);
-    if !here {
-        return q;
-    }
-    while (p as usize) < s.len() {
-        let plain = faults::plain_event(s, p, x);
-        if !plain {
-            return Spot {
-                p: p,
-                last: last,
-                x: x,
-                t: t,
-            };
-        }
-        let next = next_at(s, p);
-        let i = x.events as usize;
-        at[i] = p;
-        t = tallied(s, p, t);
-        x = with_event(x, 1, next);
-        last = 2;
-        p = next;
-    }
-    Spot {
-        p: p,
-        last: last,
-        x: x,
-        t: t,
-    }
-}
-
 // The shape of the event at a place, where the bytes before its data are there in any edition.
 fn shape_here(s: &[u8], edition: u8, p: u16) -> Shape
     requires { ⌜ p + 9 ≤ length (now s) ⌝ }
@@ -312,6 +299,95 @@ fn shape_here(s: &[u8], edition: u8, p: u16) -> Shape
     let start = p as usize + FIELD_BYTES;
     let end = start + 6;
     layout::shape_of(edition, &s[start..end])
+}
+
+// Takes the event at p, without a fault, as event n: into the places, the table and the tally.
+fn take_event(s: &[u8], edition: u8, p: u16, n: u8, k: Tally, at: &mut [u16], t: &mut [u8]) -> Tally
+    requires { ⌜ (p + frontBytes ≤ length (now s)) × (n < slots) × (length (now at) ≡ slots) × (k .bytes < maxBytes * 2) ⌝ }
+    ensures { λ r. ⌜ TakenEvent (now (s .entry)) edition p n k (now (at .entry)) (now (t .entry)) r (now (at .exit)) (now (t .exit)) ⌝ }
+{
+    let place = p as usize + FIELD_BYTES;
+    let agent = s[place];
+    let a = shape_here(s, edition, p);
+    lay_event(p, n, agent, a, at, t);
+    Tally {
+        bytes: k.bytes + read_width(a),
+        agents: noted(k.agents, agent),
+    }
+}
+
+fn inits(s: &[u8], spot: Spot, at: &mut [u16], t: &mut [u8]) -> Spot
+    requires { ⌜ Stands (now s) spot (now at) ⌝ }
+    ensures { λ r. ⌜ Grown (now (s .entry)) spot (now (at .entry)) (now (t .entry)) r (now (at .exit)) (now (t .exit)) ⌝ }
+{
+    let h = spot.x.head;
+    let mut n = spot.x.events;
+    let mut k = spot.t;
+    let mut last = spot.last;
+    let mut p = spot.p;
+    if last != 1 {
+        return spot;
+    }
+    while (p as usize) < s.len() {
+        let plain = faults::plain_init(s, p, behind(h, n, n, p), at);
+        if !plain {
+            return Spot {
+                p: p,
+                last: last,
+                x: behind(h, n, n, p),
+                t: k,
+            };
+        }
+        let next = next_at(s, p);
+        k = take_event(s, h.edition, p, n, k, at, t);
+        n = n + 1;
+        last = 2;
+        p = next;
+    }
+    Spot {
+        p: p,
+        last: last,
+        x: behind(h, n, n, p),
+        t: k,
+    }
+}
+
+fn events(s: &[u8], spot: Spot, at: &mut [u16], t: &mut [u8]) -> Spot
+    requires { ⌜ Stands (now s) spot (now at) ⌝ }
+    ensures { λ r. ⌜ Grown (now (s .entry)) spot (now (at .entry)) (now (t .entry)) r (now (at .exit)) (now (t .exit)) ⌝ }
+{
+    let h = spot.x.head;
+    let inits = spot.x.inits;
+    let mut n = spot.x.events;
+    let mut k = spot.t;
+    let mut last = spot.last;
+    let mut p = spot.p;
+    let here = content::within(1, 2, last);
+    if !here {
+        return spot;
+    }
+    while (p as usize) < s.len() {
+        let plain = faults::plain_event(s, p, behind(h, inits, n, p));
+        if !plain {
+            return Spot {
+                p: p,
+                last: last,
+                x: behind(h, inits, n, p),
+                t: k,
+            };
+        }
+        let next = next_at(s, p);
+        k = take_event(s, h.edition, p, n, k, at, t);
+        n = n + 1;
+        last = 2;
+        p = next;
+    }
+    Spot {
+        p: p,
+        last: last,
+        x: behind(h, inits, n, p),
+        t: k,
+    }
 }
 
 // Is the row r, of the field at p, above the one before it?
@@ -327,90 +403,148 @@ fn rises(s: &[u8], p: u16, x: Counts, r: Row) -> bool
     limits::row_below(layout::row_of(x.head.edition, &s[start..end]), r)
 }
 
-// Is the field at p, behind an event or a row, a row without a fault? Its events stand before it, so that their bytes are there.
-fn plain_row(s: &[u8], p: u16, last: u8, x: Counts, at: &[u16]) -> bool
-    requires { ⌜ Turn (now s) p last x (now at) × (last < 4) ⌝ }
-    ensures { λ r. ⌜ (r ≡ true → PlainRow (now (s .entry)) p x (now (at .entry))) ⌝ }
+// The byte that the event at p saw at the flat byte n, where its access a covers it.
+fn seen_at(s: &[u8], edition: u8, p: u16, a: Shape, n: u8) -> u8
+    requires { ⌜ a .start ≤ n ⌝ }
+    ensures { λ r. ⌜ r ≡ getD (now (s .entry)) (dataAt edition p a n) 0 ⌝ }
 {
-    let place = p as usize;
-    let start = place + FIELD_BYTES;
+    let front = FIELD_BYTES + sizes::event_bytes(edition) as usize;
+    field::byte(s, p as usize + front + (n - a.start) as usize)
+}
+
+// How much of its data stands before what an access wrote; without a jump, as above.
+fn passed(a: Shape) -> u16
+    ensures { λ r. ⌜ (r ≡ passed a) × (r ≤ 255) ⌝ }
+{
+    (a.kind == 3) as u16 * a.width as u16
+}
+
+// The byte that it wrote there.
+fn wrote_at(s: &[u8], edition: u8, p: u16, a: Shape, n: u8) -> u8
+    requires { ⌜ a .start ≤ n ⌝ }
+    ensures { λ r. ⌜ r ≡ getD (now (s .entry)) (dataAt edition p a n + passed a) 0 ⌝ }
+{
+    let front = FIELD_BYTES + sizes::event_bytes(edition) as usize;
+    field::byte(
+        s,
+        p as usize + front + (n - a.start) as usize + passed(a) as usize,
+    )
+}
+
+// Is the field at p a row by its tag and its length, between events that stand before it, and is there a place for it in the table?
+fn known(s: &[u8], p: u16, x: Counts, r: Row) -> bool
+    ensures { λ y. ⌜ (y ≡ true → KnownRow (now (s .entry)) p x r) ⌝ }
+{
+    let here = (field::byte(s, p as usize) == 3)
+        & (field::length_at(s, p as u32) == sizes::row_bytes(x.head.edition) as u16);
+    let held = (r.reader < x.events) & (r.writer < x.events);
+    (here & held) & ((x.rows as usize) < ROWS)
+}
+
+// Does the access a of its reader read the row's byte, and the access b of its writer, another event, write it?
+fn joins(r: Row, a: Shape, b: Shape) -> bool
+    ensures { λ y. ⌜ (y ≡ true → JoinedRow r a b) ⌝ }
+{
+    let reads = ranges::covers(a, r.address) & access::reads(a);
+    let writes = ranges::covers(b, r.address) & access::writes(b);
+    reads & (writes & !(r.reader == r.writer))
+}
+
+// Takes the field at p, behind an event or a row, where it is a row without a fault and has a place in the table. The accesses of its events stand in
+// theirs.
+fn take_row(
+    s: &[u8],
+    p: u16,
+    last: u8,
+    x: Counts,
+    at: &[u16],
+    t: &[u8; COLUMNS],
+    q: &mut [u8],
+) -> bool
+    requires { ⌜ Turn (now s) p last x (now at) × (last < 4) × Shaped (now s) x (now at) (now t) ⌝ }
+    ensures { λ r. ⌜ TakenRow (now (s .entry)) p x (now (at .entry)) (now (t .entry)) (now (q .entry)) r (now (q .exit)) ⌝ }
+{
+    let edition = x.head.edition;
+    let start = p as usize + FIELD_BYTES;
     let end = start + 3;
     if s.len() < end {
         return false;
     }
-    let edition = x.head.edition;
     let r = layout::row_of(edition, &s[start..end]);
-    let here = (field::byte(s, place) == 3)
-        & (field::length_at(s, p as u32) == sizes::row_bytes(edition) as u16);
-    let known = here & ((r.reader < x.events) & (r.writer < x.events));
+    let known = known(s, p, x, r);
     if !known {
         return false;
     }
     let e = r.reader as usize;
     let w = r.writer as usize;
-    let a = shape_here(s, edition, at[e]);
-    let b = shape_here(s, edition, at[w]);
-    let reads = ranges::covers(a, r.address) & access::reads(a);
-    let writes = ranges::covers(b, r.address) & access::writes(b);
-    (reads & (writes & !(r.reader == r.writer))) & rises(s, p, x, r)
+    let a = tables::shape(t, 2 * e);
+    let b = tables::shape(t, 2 * w);
+    let plain = joins(r, a, b) & rises(s, p, x, r);
+    if !plain {
+        return false;
+    }
+    let seen = seen_at(s, edition, at[e], a, r.address);
+    let wrote = wrote_at(s, edition, at[w], b, r.address);
+    store::put_row(q, x.rows as usize, r, seen, wrote);
+    true
 }
 
-fn rows(s: &[u8], q: Spot, at: &[u16]) -> Spot
-    requires { ⌜ Stands (now s) q (now at) ⌝ }
-    ensures { λ r. ⌜ Stands (now (s .entry)) r (now (at .entry)) ⌝ }
+fn rows(s: &[u8], spot: Spot, at: &[u16], t: &[u8; COLUMNS], q: &mut [u8]) -> Spot
+    requires { ⌜ Stands (now s) spot (now at) × Shaped (now s) (spot .x) (now at) (now t) ⌝ }
+    ensures { λ r. ⌜ Stands (now (s .entry)) r (now (at .entry)) × Carried (now (s .entry)) (spot .x) (now (at .entry)) (now (t .entry)) (now (q .entry)) (r .x) (now (at .entry)) (now (t .entry)) (now (q .exit)) ⌝ }
 {
-    let mut x = q.x;
-    let t = q.t;
-    let mut last = q.last;
-    let mut p = q.p;
+    let x = spot.x;
+    let k = spot.t;
+    let mut n = x.rows;
+    let mut last = spot.last;
+    let mut p = spot.p;
     if last != 2 {
-        return q;
+        return spot;
     }
     while (p as usize) < s.len() {
-        let plain = plain_row(s, p, last, x, at);
+        let plain = take_row(s, p, last, with_rows(x, n, p), at, t, q);
         if !plain {
             return Spot {
                 p: p,
                 last: last,
-                x: x,
-                t: t,
+                x: with_rows(x, n, p),
+                t: k,
             };
         }
-        let next = next_at(s, p);
-        x = with_row(x, next);
+        n = n + 1;
         last = 3;
-        p = next;
+        p = p + 6;
     }
     Spot {
         p: p,
         last: last,
-        x: x,
-        t: t,
+        x: with_rows(x, n, p),
+        t: k,
     }
 }
 
-// The fields, front to back, up to the first at fault. The places start out as zeros.
-fn fields(s: &[u8], at: &mut [u16]) -> Scan
+// The fields, front to back, up to the first at fault, the events and rows into the tables. The places start out as zeros.
+fn fields(s: &[u8], at: &mut [u16], t: &mut [u8; COLUMNS], q: &mut [u8]) -> Scan
     requires { ⌜ (length (now s) ≤ maxBytes) × (now at ≡ replicate slots 0) ⌝ }
-    ensures { λ r. ⌜ Scanned (now (s .entry)) r (now (at .exit)) ⌝ }
+    ensures { λ r. ⌜ Scanned (now (s .entry)) (now (t .entry)) (now (q .entry)) r (now (at .exit)) (now (t .exit)) (now (q .exit)) ⌝ }
 {
-    let q = rows(s, events(s, inits(s, begin(s), at), at), at);
-    let mut x = q.x;
-    let mut t = q.t;
-    let mut last = q.last;
-    let mut p = q.p;
+    let spot = rows(s, events(s, inits(s, begin(s), at, t), at, t), at, t, q);
+    let mut x = spot.x;
+    let mut k = spot.t;
+    let mut last = spot.last;
+    let mut p = spot.p;
     while (p as usize) < s.len() {
         let n = faults::fault_at(s, p, last, x, at);
         if n != 0 {
             return Scan::Stopped(n, faults::place_of(n, p));
         }
         let next = next_at(s, p);
-        t = tally_after(s, p, t);
-        x = after(s, p, last, x, at);
+        k = tally_after(s, p, k);
+        x = after(s, p, last, x, at, t, q);
         last = field::byte(s, p as usize);
         p = next;
     }
-    Scan::Ended(last, x, t)
+    Scan::Ended(last, x, k)
 }
 
 // ---- after all fields
@@ -473,38 +607,69 @@ fn finish(s: &[u8], last: u8, x: Counts, at: &[u16], t: Tally) -> Reading
     }
 }
 
-// Beside a refusal the counts and places are blank.
-fn refuse(number: u8, place: u32) -> Outcome
+// Beside a refusal the counts are blank.
+fn refuse(number: u8, place: u32) -> Read
     ensures { λ r. ⌜ r ≡ refusal number place ⌝ }
 {
-    Outcome {
+    Read {
         reading: Reading::Refused(number, place),
         counts: blank(),
-        at: [0; SLOTS],
     }
 }
 
-// Reads a sheet: its counts and places, or the refusal.
-pub fn read(s: &[u8]) -> Outcome
-    ensures { λ r. ⌜ Handed (now (s .entry)) r ⌝ }
+fn clear(at: &mut [u16])
+    requires { ⌜ length (now at) ≡ slots ⌝ }
+    ensures { λ _. ⌜ now (at .exit) ≡ blankPlaces ⌝ }
+{
+    for i in 0..SLOTS {
+        at[i] = 0;
+    }
+}
+
+// Reads a sheet: its counts and places, with its events and rows in the tables; or the refusal. What the lent arrays hold on entry does not matter.
+pub fn fill(s: &[u8], at: &mut [u16; SLOTS], t: &mut [u8; COLUMNS], q: &mut [u8; ROW_CELLS]) -> Read
+    ensures { λ r. ⌜ Filled (now (s .entry)) r (now (at .exit)) (now (t .entry)) (now (t .exit)) (now (q .entry)) (now (q .exit)) ⌝ }
 {
     if MAX_BYTES < s.len() {
         return refuse(1, 0);
     }
-    let mut at = [0u16; SLOTS];
-    let scan = fields(s, &mut at);
+    clear(at);
+    let scan = fields(s, at, t, q);
     match scan {
         Scan::Stopped(n, p) => refuse(n, p),
-        Scan::Ended(last, x, t) => {
-            let reading = finish(s, last, x, &at, t);
+        Scan::Ended(last, x, k) => {
+            let reading = finish(s, last, x, at, k);
             match reading {
                 Reading::Refused(n, p) => refuse(n, p),
-                Reading::Whole => Outcome {
+                Reading::Whole => Read {
                     reading: Reading::Whole,
                     counts: x,
-                    at: at,
                 },
             }
         }
+    }
+}
+
+// Reads a sheet: its counts and places, or the refusal; beside that the counts and places are blank.
+pub fn read(s: &[u8]) -> Outcome
+    ensures { λ r. ⌜ Handed (now (s .entry)) r ⌝ }
+{
+    let mut at = [0u16; SLOTS];
+    let mut t = [0u8; COLUMNS];
+    let mut q = [0u8; ROW_CELLS];
+    let r = fill(s, &mut at, &mut t, &mut q);
+    let reading = r.reading;
+    let x = r.counts;
+    match reading {
+        Reading::Refused(n, p) => Outcome {
+            reading: Reading::Refused(n, p),
+            counts: blank(),
+            at: [0; SLOTS],
+        },
+        Reading::Whole => Outcome {
+            reading: Reading::Whole,
+            counts: x,
+            at: at,
+        },
     }
 }

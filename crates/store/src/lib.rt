@@ -1,5 +1,5 @@
 // The tables that every step of the judge works on: an entry written. No function has a `requires`: an event counts by its place among 32, a slot by
-// its place among 64, a row by its place among 512, a pair by its place among 32, and what has no place in the buffer is not written.
+// its place among 64, a row by its place among 288, a pair by its place among 32, and what has no place in the buffer is not written.
 use format::Pair;
 use format::Row;
 use format::Shape;
@@ -38,12 +38,12 @@ pub fn put_access(t: &mut [u8], k: usize, a: Shape)
 pub fn put_row(q: &mut [u8], j: usize, r: Row, seen: u8, wrote: u8)
     ensures { λ _. ⌜ now (q .exit) ≡ puttingRow (now (q .entry)) (j % rowRoom) r seen wrote ⌝ }
 {
-    let i = j % 512;
+    let i = j % 288;
     put(q, i, r.reader);
-    put(q, 512 + i, r.address);
-    put(q, 1024 + i, r.writer);
-    put(q, 1536 + i, seen);
-    put(q, 2048 + i, wrote);
+    put(q, 288 + i, r.address);
+    put(q, 576 + i, r.writer);
+    put(q, 864 + i, seen);
+    put(q, 1152 + i, wrote);
 }
 
 pub fn put_pair(p: &mut [u8], j: usize, r: Pair)

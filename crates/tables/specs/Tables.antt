@@ -62,20 +62,20 @@ acrossIn R t e d =
     or (R (shapeIn t (2 * e + 1)) (shapeIn t (2 * d)) or R (shapeIn t (2 * e + 1)) (shapeIn t (2 * d + 1)))
 
 abbrev pub rowRoom : ℕ
-rowRoom = 512
+rowRoom = 288
 
 abbrev pub rowCells : ℕ
-rowCells = 2560
+rowCells = 1440
 
 -- an event's number counts by its place among the slots
 unfoldable pub rowIn : List ℕ → ℕ → Row
-rowIn q j = record { reader = getD q j 0 % slots; address = getD q (512 + j) 0; writer = getD q (1024 + j) 0 % slots }
+rowIn q j = record { reader = getD q j 0 % slots; address = getD q (288 + j) 0; writer = getD q (576 + j) 0 % slots }
 
 abbrev pub seenIn : List ℕ → ℕ → ℕ
-seenIn q j = getD q (1536 + j) 0
+seenIn q j = getD q (864 + j) 0
 
 abbrev pub wroteIn : List ℕ → ℕ → ℕ
-wroteIn q j = getD q (2048 + j) 0
+wroteIn q j = getD q (1152 + j) 0
 
 abbrev pub pairRoom : ℕ
 pairRoom = 32
@@ -92,7 +92,7 @@ putting t k a =
 
 abbrev pub puttingRow : List ℕ → ℕ → Row → ℕ → ℕ → List ℕ
 puttingRow q j r seen wrote =
-    set (set (set (set (set q j (r .reader)) (512 + j) (r .address)) (1024 + j) (r .writer)) (1536 + j) seen) (2048 + j) wrote
+    set (set (set (set (set q j (r .reader)) (288 + j) (r .address)) (576 + j) (r .writer)) (864 + j) seen) (1152 + j) wrote
 
 abbrev pub puttingPair : List ℕ → ℕ → Pair → List ℕ
 puttingPair p j r = set (set p j (r .first)) (32 + j) (r .second)

@@ -1,2 +1,4 @@
 pub mod TwoLaws
 pub mod TornLaws
+pub mod NoticedLaws
+pub mod DoubledLaws

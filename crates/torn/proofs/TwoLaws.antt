@@ -1,6 +1,7 @@
 -- The two lowest members of a set, as the machine takes them. Assumes nothing.
 --     Two, two-found, two-none     two members with none between and none below; where the second is missing, there are not two
---     two-first, two-last          the same as one number, the first that passes `twoIn`
+--     two-parts                    a pair as one number, taken apart
+--     two-first, two-last          the two lowest as one number, the first that passes `twoIn`
 use mathlib.Core.Path.{_≡_, sym, ap, _∙_, subst}
 use mathlib.Core.Bool.{true, false}
 use mathlib.Core.Logic.{⊎-elim}
@@ -23,6 +24,14 @@ pub record Two (m w v : ℕ) : Type 0 where
   pub second : Has m v
   pub low : (d : ℕ) → d < w → mem m d ≡ false
   pub next : (d : ℕ) → w < d → d < v → mem m d ≡ false
+
+-- a pair as one number, taken apart
+pub two-parts : (m p : ℕ) → twoIn m p ≡ true → (p / slots < p % slots) × (Has m (p / slots) × Has m (p % slots))
+unfolding twoIn
+two-parts m p h =
+    let a = and-both (ltb (p / slots) (p % slots)) _ h in
+    let b = and-both (mem m (p / slots)) (mem m (p % slots)) (a .1) in
+    (ltb-true (p / slots) (p % slots) (a .0), (b .0, b .1))
 
 module _ (m w v : ℕ) (width : m < 2 ^ slots) (lw : Lowest m w) (lv : Lowest (remove m (w % slots)) v) where
   rest-some : v < slots → Has (remove m (w % slots)) v
@@ -79,14 +88,6 @@ module _ (m w v : ℕ) (width : m < 2 ^ slots) (lw : Lowest m w) (lv : Lowest (r
           let r = remove-le m (w % slots) in
           omega (arith, mem-lt slots (remove m (w % slots)) v (omega arith) (lv .member (omega (arith, f))))
 
-  -- as one number
-  two-parts : (p : ℕ) → twoIn m p ≡ true → (p / slots < p % slots) × (Has m (p / slots) × Has m (p % slots))
-  unfolding twoIn
-  two-parts p h =
-      let a = and-both (ltb (p / slots) (p % slots)) _ h in
-      let b = and-both (mem m (p / slots)) (mem m (p % slots)) (a .1) in
-      (ltb-true (p / slots) (p % slots) (a .0), (b .0, b .1))
-
   pub two-first : v < slots → w * slots + v ≡ firstOf (twoIn m) pairs
   unfolding twoIn
   two-first h =
@@ -99,7 +100,7 @@ module _ (m w v : ℕ) (width : m < 2 ^ slots) (lw : Lowest m w) (lv : Lowest (r
         within = omega arith;
         passes = λ z. and-holds (ltb ((w * slots + v) / slots) ((w * slots + v) % slots)) _ (lt-ltb ((w * slots + v) / slots) ((w * slots + v) % slots) (omega arith))
             ∙ and-holds (mem m ((w * slots + v) / slots)) _ (ap (mem m) i ∙ t .first) ∙ ap (mem m) j ∙ t .second;
-        least = λ d z. false-of (twoIn m d) (λ y. lower t d z (two-parts d y));
+        least = λ d z. false-of (twoIn m d) (λ y. lower t d z (two-parts m d y));
       })
     where
       lower : Two m w v → (d : ℕ) → d < w * slots + v → (d / slots < d % slots) × (Has m (d / slots) × Has m (d % slots)) → ⊥
@@ -117,5 +118,5 @@ module _ (m w v : ℕ) (width : m < 2 ^ slots) (lw : Lowest m w) (lv : Lowest (r
       (record {
         within = omega arith;
         passes = λ z. absurd (omega arith);
-        least = λ d z. false-of (twoIn m d) (λ y. let t = two-parts d y in two-none h (d / slots) (d % slots) (t .0) (t .1 .0) (t .1 .1));
+        least = λ d z. false-of (twoIn m d) (λ y. let t = two-parts m d y in two-none h (d / slots) (d % slots) (t .0) (t .1 .0) (t .1 .1));
       })

@@ -1,1 +1,2 @@
 pub mod Torn
+pub mod steps

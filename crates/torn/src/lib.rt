@@ -1,52 +1,55 @@
 // Rule 25 over the tables, by masks: a read whose access takes its bytes from two writers, all three tear-free with equal ranges.
 use answer::Names;
 use answer::Rule;
-use cells::gain;
 use format::Row;
 use sets::SLOTS;
 use sets::least;
 use tables::ACCESSES;
 use tables::COLUMNS;
-use tables::ROW_CELLS;
-use tables::ROWS;
 ghost use mathlib.Core.Path.{_≡_};
+ghost use mathlib.Core.Bool.{cond};
 ghost use Prim.Native.Nat.{_%_, min};
-ghost use Rattle.sets.specs.Mask.{slots};
+ghost use Rattle.sets.specs.Mask.{slots, insert};
+ghost use Rattle.sets.specs.Tells.{Tells};
 ghost use Rattle.cells.specs.First.{firstOf};
-ghost use Rattle.tables.specs.Tables.{rowRoom};
-ghost use Rattle.torn.specs.Torn.{untornIn, sourceGains, sourcesIn, twoIn, twoSourcesIn, pairs, tornIn, namedIn, rule25In};
+ghost use Rattle.tables.specs.Tables.{slotIn};
+ghost use Rattle.torn.specs.Torn.{untornIn, sourceGains, twoIn, twoSourcesIn, pairs, tornIn, namedIn};
+ghost use Rattle.torn.specs.steps.Noticed.{Marks};
+ghost use Rattle.torn.specs.steps.Doubled.{Twice, Doubled};
 
 // Two events as one number, the first times the slots plus the second.
 const PAIRS: usize = SLOTS * SLOTS;
 
-// Are both ends of the row tear-free, with equal ranges?
-fn untorn(t: &[u8; COLUMNS], r: Row) -> bool
+// Are both ends of the row tear-free, with equal ranges? k is the slot of the reader's access.
+fn untorn(t: &[u8; COLUMNS], k: usize, r: Row) -> bool
+    requires { ⌜ k ≡ slotIn (now t) (r .reader % slots) (r .address) ⌝ }
     ensures { λ b. ⌜ b ≡ untornIn (now (t .entry)) r ⌝ }
 {
-    let a = tables::shape(t, tables::slot_at(t, r.reader as usize, r.address));
+    let a = tables::shape(t, k);
     let b = tables::shape(t, tables::slot_at(t, r.writer as usize, r.address));
     access::tear_free(a) & (access::tear_free(b) & ranges::equal(a, b))
 }
 
-// The mask of the reader's access gains the writer, where the row is untorn.
-fn note_row(t: &[u8; COLUMNS], r: Row, masks: &mut [u32])
-    ensures { λ _. ⌜ now (masks .exit) ≡ sourceGains (now (t .entry)) r (now (masks .entry)) ⌝ }
+// 1 where a test passed, else 0.
+fn one(test: bool) -> u32
+    ensures { λ r. ⌜ r ≡ cond test 1 0 ⌝ }
 {
-    if !untorn(t, r) {
-        return;
-    }
-    let k = tables::slot_at(t, r.reader as usize, r.address);
-    gain(masks, k, r.writer as usize);
+    if test { 1 } else { 0 }
 }
 
-// The mask of each access gains the writers of its untorn rows, of the first n.
-fn sources(t: &[u8; COLUMNS], q: &[u8; ROW_CELLS], n: usize, masks: &mut [u32])
-    ensures { λ _. ⌜ now (masks .exit) ≡ sourcesIn (now (t .entry)) (now (q .entry)) (min n rowRoom) (now (masks .entry)) ⌝ }
+// The set m, with e where a test passed: what `cells::take` answers, by a shift. Of a choice the compiler makes a jump where the test takes long.
+fn join(m: u32, e: usize, test: bool) -> u32
+    ensures { λ r. ⌜ r ≡ cond test (insert m (e % slots)) m ⌝ }
 {
-    let m = least(n, ROWS);
-    for j in 0..m {
-        note_row(t, rows::row(q, j), masks);
-    }
+    m | one(test) << (e % SLOTS)
+}
+
+// The mask of the reader's access gains the writer, where the row is untorn. Without a jump.
+pub fn note_row(t: &[u8; COLUMNS], r: Row, masks: &mut [u32; ACCESSES])
+    ensures { λ _. ⌜ now (masks .exit) ≡ sourceGains (now (t .entry)) r (now (masks .entry)) ⌝ }
+{
+    let k = tables::slot_at(t, r.reader as usize, r.address);
+    masks[k] = join(masks[k], r.writer as usize, untorn(t, k, r));
 }
 
 // The two lowest members of a set, as one number; `PAIRS` where it has fewer.
@@ -84,10 +87,31 @@ fn torn(s: &[u32; ACCESSES], n: usize) -> usize
     m
 }
 
-// 25 at that event, with the two.
-fn named(s: &[u32; ACCESSES], n: usize) -> Rule
+// The set without its least member, which is not empty where it has two.
+fn others(m: u32) -> u32
+    ensures { λ r. ⌜ Marks r (Twice m) ⌝ }
+{
+    m & std::num::wrapping_sub_u32(m, 1)
+}
+
+// Has some mask two members? All are looked at, so that the machine takes several at once.
+fn doubled(s: &[u32; ACCESSES]) -> bool
+    ensures { λ r. ⌜ Tells r (Doubled (now (s .entry))) ⌝ }
+{
+    let mut c = 0;
+    for k in 0..ACCESSES {
+        c = c | others(s[k]);
+    }
+    c != 0
+}
+
+// 25 at that event, with the two. Mostly no mask has two members.
+pub fn named(s: &[u32; ACCESSES], n: usize) -> Rule
     ensures { λ r. ⌜ r ≡ namedIn (now (s .entry)) (min n slots) ⌝ }
 {
+    if !doubled(s) {
+        return Rule::Kept;
+    }
     let e = torn(s, n);
     if e < least(n, SLOTS) {
         let p = pair(s, e);
@@ -97,13 +121,4 @@ fn named(s: &[u32; ACCESSES], n: usize) -> Rule
         );
     }
     Rule::Kept
-}
-
-// The lowest (R, W, V) that 25 names; the events and the rows that count are those that have a place.
-pub fn rule25(t: &[u8; COLUMNS], events: usize, q: &[u8; ROW_CELLS], rows: usize) -> Rule
-    ensures { λ r. ⌜ r ≡ rule25In (now (t .entry)) (min events slots) (now (q .entry)) (min rows rowRoom) ⌝ }
-{
-    let mut by_access = [0u32; ACCESSES];
-    sources(t, q, rows, &mut by_access);
-    named(&by_access, events)
 }

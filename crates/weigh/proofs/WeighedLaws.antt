@@ -13,40 +13,39 @@ use Rattle.answer.specs.declared.Answer.the-variants.{Broken}
 use Rattle.answer.specs.declared.Names.{Names}
 use Rattle.answer.specs.declared.Rule.{Rule}
 use Rattle.answer.specs.declared.Rule.the-variants.{Kept, Breach}
-use Rattle.tables.specs.Tables.{columns, rowCells}
-use Rattle.prepare.specs.Prepared.{Prepared}
-use Rattle.prepare.proofs.PreparedLaws.{prepared-unique}
+use Rattle.prepare.specs.Prepared.{Ruled}
+use Rattle.prepare.proofs.PreparedLaws.{ruled-unique}
 use Rattle.arrange.specs.Arranged.{Arranged}
 use Rattle.arrange.proofs.ArrangedLaws.{arranged-unique}
 use Rattle.weigh.specs.Weighed.{brokenIn, Decided, Weighed}
 
-module _ {s : List ℕ} {x : Counts} {at t q succ pred : List ℕ} {rule : Rule}
-    (w : Prepared s x at (replicate columns 0) t (replicate rowCells 0) q (replicate slots 0) succ (replicate slots 0) pred rule)
+module _ {s : List ℕ} {x : Counts} {t q succ pred : List ℕ} {rule : Rule} (w : Ruled s x t q (replicate slots 0) succ (replicate slots 0) pred rule)
     {need : ℕ} {scratch order : List ℕ} where
   -- what follows from the rule that was found
-  weighed : {r : Answer} {scratch′ order′ : List ℕ} → Decided (x .inits) (x .events) (x .rows) t q succ pred need scratch order rule r scratch′ order′
-      → Weighed s x at need scratch order r scratch′ order′
+  weighed : {r : Answer} {scratch′ order′ : List ℕ} → Decided (x .inits) (x .events) (x .rows) t q (w .after) (w .before) need scratch order rule r scratch′ order′
+      → Weighed s x t q need scratch order r scratch′ order′
   weighed {r} {scratch′} {order′} d =
       record {
-        t = t;
-        q = q;
         p = w .p;
-        laid = w .laid;
-        succ = succ;
-        pred = pred;
+        pairs = w .pairs;
+        succ = w .after;
+        pred = w .before;
         ordered = w .ordered;
-        decided = subst (λ (i : Rule). Decided (x .inits) (x .events) (x .rows) t q succ pred need scratch order i r scratch′ order′) (w .says) d;
+        decided = subst (λ (i : Rule). Decided (x .inits) (x .events) (x .rows) t q (w .after) (w .before) need scratch order i r scratch′ order′) (w .says) d;
       }
 
   pub weighed-broken : {n : ℕ} {names : Names} → rule ≡ Breach n names → {scratch′ : List ℕ} → scratch′ ≡ cleared need scratch
-      → Weighed s x at need scratch order (Broken n names) scratch′ order
+      → Weighed s x t q need scratch order (Broken n names) scratch′ order
   weighed-broken {n} {names} k {scratch′} c =
-      weighed (subst (λ (i : Rule). Decided (x .inits) (x .events) (x .rows) t q succ pred need scratch order i (Broken n names) scratch′ order) (sym k) (record { says = refl; scratch-cleared = c; order-kept = refl }))
+      weighed (subst (λ (i : Rule). Decided (x .inits) (x .events) (x .rows) t q (w .after) (w .before) need scratch order i (Broken n names) scratch′ order) (sym k) (record { says = refl; scratch-cleared = c; order-kept = refl }))
 
   pub weighed-kept : rule ≡ Kept → {r : Answer} {scratch′ order′ : List ℕ} → Arranged (x .inits) (x .events) (x .rows) t q succ pred scratch order r scratch′ order′
-      → Weighed s x at need scratch order r scratch′ order′
+      → Weighed s x t q need scratch order r scratch′ order′
   weighed-kept k {r} {scratch′} {order′} a =
-      weighed (subst (λ (i : Rule). Decided (x .inits) (x .events) (x .rows) t q succ pred need scratch order i r scratch′ order′) (sym k) a)
+      let m = w .left k in
+      weighed (subst (λ (i : Rule). Decided (x .inits) (x .events) (x .rows) t q (w .after) (w .before) need scratch order i r scratch′ order′) (sym k)
+      (subst (λ (z : List ℕ). Arranged (x .inits) (x .events) (x .rows) t q (w .after) z scratch order r scratch′ order′) (m .1)
+      (subst (λ (z : List ℕ). Arranged (x .inits) (x .events) (x .rows) t q z pred scratch order r scratch′ order′) (m .0) a)))
 
 -- ---- agreement
 
@@ -57,16 +56,19 @@ module _ (k n m : ℕ) (t q succ pred : List ℕ) (need : ℕ) (scratch order : 
   decided-unique (Breach number names) x y =
       (x .says ∙ sym (y .says), x .scratch-cleared ∙ sym (y .scratch-cleared), x .order-kept ∙ sym (y .order-kept))
 
-module _ {s : List ℕ} {x : Counts} {at : List ℕ} {need : ℕ} {scratch order : List ℕ} {r a : Answer} {c c′ o o′ : List ℕ}
-    (w : Weighed s x at need scratch order r c o) (v : Weighed s x at need scratch order a c′ o′) where
-  -- what was prepared is the same
-  prepared : {b : Answer} {d p : List ℕ} (u : Weighed s x at need scratch order b d p)
-      → Prepared s x at (replicate columns 0) (u .t) (replicate rowCells 0) (u .q) (replicate slots 0) (u .succ) (replicate slots 0) (u .pred) (brokenIn x (u .t) (u .q) (u .succ) (u .pred))
-  prepared u = record { p = u .p; laid = u .laid; ordered = u .ordered; says = refl }
+module _ {s : List ℕ} {x : Counts} {t q : List ℕ} {need : ℕ} {scratch order : List ℕ} {r a : Answer} {c c′ o o′ : List ℕ}
+    (w : Weighed s x t q need scratch order r c o) (v : Weighed s x t q need scratch order a c′ o′) where
+  -- what was found is the same
+  ruled : {b : Answer} {d p : List ℕ} (u : Weighed s x t q need scratch order b d p)
+      → Ruled s x t q (replicate slots 0) (u .succ) (replicate slots 0) (u .pred) (brokenIn x t q (u .succ) (u .pred))
+  ruled u = record { p = u .p; pairs = u .pairs; after = u .succ; before = u .pred; ordered = u .ordered; says = refl; left = λ k. (refl, refl) }
 
   pub weighed-unique : (r ≡ a) × (c ≡ c′) × (o ≡ o′)
+  unfolding ruled
   weighed-unique =
-      let y = prepared-unique (prepared v) (prepared w) in
-      decided-unique (x .inits) (x .events) (x .rows) (w .t) (w .q) (w .succ) (w .pred) need scratch order
-      (brokenIn x (w .t) (w .q) (w .succ) (w .pred)) (w .decided)
-      (rw (y .accesses, y .rows, y .after, y .before) at (v .decided))
+      let y = ruled-unique (ruled w) (ruled v) in
+      let e : v .succ ≡ w .succ = y .after in
+      let f : v .pred ≡ w .pred = y .before in
+      decided-unique (x .inits) (x .events) (x .rows) t q (w .succ) (w .pred) need scratch order
+      (brokenIn x t q (w .succ) (w .pred)) (w .decided)
+      (rw (e, f) at (v .decided))

@@ -1,5 +1,5 @@
-// What the reader hands over, weighed: crate `prepare` makes the tables and happens-before and tries the rules 21 to 25, and where none is broken the
-// last step follows. Total: nothing is asked of the sheet, the counts, the places or the buffers.
+// Tables, weighed: crate `prepare` makes happens-before and tries the rules 21 to 25, and where none is broken the last step follows. Total: nothing
+// is asked of the sheet, the counts, the tables or the buffers.
 use answer::Answer;
 use answer::Rule;
 use entries::Counts;
@@ -8,32 +8,29 @@ use tables::COLUMNS;
 use tables::ROW_CELLS;
 ghost use Rattle.weigh.specs.Weighed.{Weighed};
 
-// The answer; where a rule is broken, the first `need` bytes of the scratch are cleared.
+// The answer on the tables of accesses and rows, and the sheet's pairs; where a rule is broken, the first `need` bytes of the scratch are cleared.
 pub fn weigh(
     s: &[u8],
     x: Counts,
-    at: &[u16],
+    t: &[u8; COLUMNS],
+    q: &[u8; ROW_CELLS],
     need: usize,
     scratch: &mut [u8],
     order: &mut [u8],
 ) -> Answer
-    ensures { λ r. ⌜ Weighed (now (s .entry)) x (now (at .entry)) need (now (scratch .entry)) (now (order .entry)) r (now (scratch .exit)) (now (order .exit)) ⌝ }
+    ensures { λ r. ⌜ Weighed (now (s .entry)) x (now (t .entry)) (now (q .entry)) need (now (scratch .entry)) (now (order .entry)) r (now (scratch .exit)) (now (order .exit)) ⌝ }
 {
     let inits = x.inits as usize;
     let events = x.events as usize;
     let rows = x.rows as usize;
-    let mut t = [0u8; COLUMNS];
-    let mut q = [0u8; ROW_CELLS];
     let mut succ = [0u32; SLOTS];
     let mut pred = [0u32; SLOTS];
-    let rule = prepare::prepare(s, x, at, &mut t, &mut q, &mut succ, &mut pred);
+    let rule = prepare::rule(s, x, t, q, &mut succ, &mut pred);
     match rule {
         Rule::Breach(n, names) => {
             marks::clear(scratch, need);
             Answer::Broken(n, names)
         }
-        Rule::Kept => {
-            arrange::arrange(inits, events, rows, &t, &q, &succ, &pred, scratch, order)
-        }
+        Rule::Kept => { arrange::arrange(inits, events, rows, t, q, &succ, &pred, scratch, order) }
     }
 }

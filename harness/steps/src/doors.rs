@@ -7,7 +7,7 @@ pub const SLOTS: usize = 32;
 /// Agents, then by slot kind, mode, start, width, tear.
 const COLUMNS: usize = SLOTS + 5 * 2 * SLOTS;
 /// Rows that a table has a place for (`tables::ROWS`): columns reader, byte, writer, seen, wrote.
-pub const ROWS: usize = 512;
+pub const ROWS: usize = 288;
 const ROW_CELLS: usize = 5 * ROWS;
 /// Pairs that a table has a place for: columns first, second.
 const PAIRS: usize = 32;

@@ -5,14 +5,8 @@ use borrow.Author.Needs.{needs}
 use Rattle.arrange.proofs.arrange.Statement.{statement}
 use Rattle.arrange.proofs.arrange.Tie as tie
 
-slice-aggregate-fill : tie.Need-slice-aggregate-fill
-slice-aggregate-fill c = search needs
-
-fill-requires : tie.Need-fill-requires
-fill-requires c κs = search needs
-
-first-requires : tie.Need-first-requires
-first-requires c κs = search needs
+seek-requires : tie.Need-seek-requires
+seek-requires c κs = search needs
 
 same-length : tie.Need-same-length
 same-length c = search needs
@@ -21,7 +15,7 @@ same-length-2 : tie.Need-same-length-2
 same-length-2 c = search needs
 
 returns : tie.Need-returns
-returns c = arranged-none (c .before .before .before .before .before .before .before .before .before .before .fill .ensures) (c .before .before .before .before .before .first .ensures) (not-true _ (c .if1 .taken))
+returns c = arranged-none (c .before .before .before .before .before .seek .ensures) (not-true _ (c .if1 .taken))
 
 settle-requires : tie.Need-settle-requires
 settle-requires c κs = search needs
@@ -33,15 +27,13 @@ same-length-4 : tie.Need-same-length-4
 same-length-4 c = search needs
 
 returns-2 : tie.Need-returns-2
-returns-2 c = arranged-some (c .before .before .before .before .before .before .before .before .before .before .before .fill .ensures) (c .before .before .before .before .before .before .first .ensures) (not-false _ (c .before .if1 .left)) (c .settle .ensures)
+returns-2 c = arranged-some (c .before .before .before .before .before .before .seek .ensures) (not-false _ (c .before .if1 .left)) (c .settle .ensures)
 
 pub arrange-spec : {M : Type 1} → statement M
 arrange-spec =
     tie.close
     (tie.spec
-    slice-aggregate-fill
-    fill-requires
-    first-requires
+    seek-requires
     same-length
     same-length-2
     returns

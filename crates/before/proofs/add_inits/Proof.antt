@@ -1,29 +1,26 @@
 -- `before::add_inits` meets its contract: the first e events have been looked at. The measure is what is left. Assumes nothing.
-use mathlib.Core.Path.{_≡_, refl, ap, sym, subst, _∙_}
-use mathlib.Core.List.{List}
-use Prim.Native.Nat.{ℕ, _-_, _%_, _≤_, min}
-use native.Mathlib.Nat.{mod-eq-of-lt}
+use mathlib.Core.Path.{_≡_, sym, subst, _∙_}
+use Prim.Native.Nat.{ℕ, _-_, _≤_}
 use native.Mathlib.Omega.{arith}
 use borrow.Author.Needs.{needs}
 use denote.Ref.{now}
 use lib.ListN.{length}
-use Rattle.sets.specs.Mask.{slots}
 use Rattle.before.specs.steps.Linked.{initAt, initsIn, Linking}
 use Rattle.before.proofs.LinkedLaws.{linking-none, linking-more, inits-none, inits-more}
 use Rattle.before.proofs.add_inits.Statement.{statement}
 use Rattle.before.proofs.add_inits.Tie as tie
 
 abbrev Inv-loop : tie.InvT-loop
-Inv-loop t n succ₀ cols₀ e₀ succ cols e = (e ≤ n) × Linking n (initsIn t n e) succ₀ cols₀ succ cols
+Inv-loop lone t n succ₀ cols₀ e₀ succ cols e = (e ≤ n) × Linking n (initsIn t n e) succ₀ cols₀ succ cols
 
 abbrev μ-loop : tie.MeasureT-loop
-μ-loop t n succ₀ cols₀ e₀ succ cols e = n - e
+μ-loop lone t n succ₀ cols₀ e₀ succ cols e = n - e
 
 loop-holds : tie.Need-loop-holds Inv-loop μ-loop
 loop-holds c = (omega arith, linking-none (initsIn (now (c .before .before .args .t)) (c .before .before .args .n) 0) (c .before .before .pre .1) (c .before .before .pre .2) (inits-none (now (c .before .before .args .t)) (c .before .before .args .n)))
 
 add-init-requires : tie.Need-add-init-requires Inv-loop μ-loop
-add-init-requires c κs = (c .before .before .before .before .before .before .pre .0, c .before .before .loop-test .taken, c .before .before .before .loop .inv .1 .size, c .before .before .before .loop .inv .1 .width)
+add-init-requires c κs = (c .before .before .before .before .before .before .pre .0, c .before .before .loop-test .taken, c .before .before .before .loop .inv .1 .size, c .before .before .before .loop .inv .1 .width, c .before .before .before .before .before .before .pre .3)
 
 add-e : tie.Need-add-e Inv-loop μ-loop
 add-e c = search needs

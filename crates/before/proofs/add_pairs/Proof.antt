@@ -1,5 +1,5 @@
 -- `before::add_pairs` meets its contract: the first j pairs have been looked at. The measure is what is left. Assumes nothing.
-use mathlib.Core.Path.{_≡_, refl, ap, sym, subst, _∙_}
+use mathlib.Core.Path.{_≡_, ap, sym, subst, _∙_}
 use mathlib.Core.List.{List}
 use Prim.Native.Nat.{ℕ, _-_, _%_, _≤_, min}
 use native.Mathlib.Nat.{mod-eq-of-lt}

@@ -15,10 +15,10 @@ use Rattle.before.proofs.beyond.Statement.{statement}
 use Rattle.before.proofs.beyond.Tie as tie
 
 abbrev Inv-loop : tie.InvT-loop
-Inv-loop n x succ d₀ e₀ d e = (e ≤ n) × Beyond e succ x d
+Inv-loop x succ d₀ e₀ d e = (e ≤ slots) × Beyond e succ x d
 
 abbrev μ-loop : tie.MeasureT-loop
-μ-loop n x succ d₀ e₀ d e = n - e
+μ-loop x succ d₀ e₀ d e = slots - e
 
 loop-holds : tie.Need-loop-holds Inv-loop μ-loop
 loop-holds c = (omega arith, beyond-none (now (c .before .args .succ)) (c .before .args .x))
@@ -30,7 +30,7 @@ mul-gained : tie.Need-mul-gained Inv-loop μ-loop
 mul-gained c = search needs
 
 shared-slice-read-gained : tie.Need-shared-slice-read-gained Inv-loop μ-loop
-shared-slice-read-gained c = omega (arith, c .before .before .before .before .before .pre .0, c .before .before .before .before .before .pre .1, c .before .before .loop-test .taken)
+shared-slice-read-gained c = omega (arith, c .before .before .before .before .before .pre, c .before .before .loop-test .taken)
 
 gained-requires : tie.Need-gained-requires Inv-loop μ-loop
 gained-requires c κs = search needs
@@ -44,14 +44,14 @@ loop-less c = search needs
 loop-again : tie.Need-loop-again Inv-loop μ-loop
 loop-again c =
     let l = c .before .before .before .before .loop in
-    let slot : l .e % slots ≡ l .e = mod-eq-of-lt (omega (arith, c .before .before .before .before .before .before .pre .0, c .before .before .before .loop-test .taken)) in
+    let slot : l .e % slots ≡ l .e = mod-eq-of-lt (omega (arith, c .before .before .before .loop-test .taken)) in
     let is = c .gained .ensures ∙ ap (λ (b : Bool). cond b (bitOr (l .d) (getD (now (c .before .before .before .before .before .before .args .succ)) (l .e) 0)) (l .d)) (c .before .before .has .ensures ∙ ap (mem (c .before .before .before .before .before .before .args .x)) slot) in
     (omega arith, subst (Beyond _ (now (c .before .before .before .before .before .before .args .succ)) (c .before .before .before .before .before .before .args .x)) (sym is) (beyond-more (l .e) (now (c .before .before .before .before .before .before .args .succ)) (c .before .before .before .before .before .before .args .x) (l .d) (l .inv .1)))
 
 returns : tie.Need-returns Inv-loop μ-loop
 returns c =
     let l = c .before .loop in
-    let k : l .e ≡ c .before .before .before .args .n = omega arith in
+    let k : l .e ≡ slots = omega arith in
     subst (λ (i : ℕ). Beyond i (now (c .before .before .before .args .succ)) (c .before .before .before .args .x) (l .d)) k (l .inv .1)
 
 pub beyond-spec : {M : Type 1} → statement M

@@ -1,5 +1,5 @@
 -- `before::join` meets its contract. Assumes nothing.
-use mathlib.Core.Path.{_≡_, ap, _∙_, subst}
+use mathlib.Core.Path.{ap, _∙_, subst}
 use native.Mathlib.Nat.{mod-eq-of-lt}
 use denote.Ref.{now}
 use Prim.Native.Nat.{ℕ}

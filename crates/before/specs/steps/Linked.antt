@@ -1,6 +1,5 @@
 -- Happens-before as it grows, a step at a time. No public contract cites this file. Laws: proofs/LinkedLaws.antt. Assumes nothing.
 --     Linked n steps succ cols     the first n rows of succ are the closure of the steps so far, and cols has their columns
---     Wide m r                     the members of m lie below r, which counts up to the slots
 --     Grew m x l l′                l′ is l, of which the mask at each member of m has gained x
 --     Beyond n succ x d            d has the members of x, and what those below n lead to
 --     Merged l m l′                l′ is l, with what m has
@@ -11,7 +10,7 @@ use mathlib.Core.Path.{_≡_}
 use mathlib.Core.Bool.{cond}
 use mathlib.Core.List.{List}
 use mathlib.Core.Logic.{_⊎_, _↔_}
-use Prim.Native.Nat.{ℕ, _^_, _<_, _≤_}
+use Prim.Native.Nat.{ℕ, _<_}
 use lib.Bits.{bitOr}
 use lib.Dec.{eqb}
 use lib.ListN.{length, getD, set}
@@ -26,10 +25,6 @@ pub record Linked (n : ℕ) (steps succ cols : List ℕ) : Type 0 where
   pub width : length cols ≡ slots
   pub closed : Closed n steps succ
   pub turned : (d : ℕ) → d < slots → (e : ℕ) → Has (getD cols d 0) e ↔ ((e < n) × Has (getD succ e 0) d)
-
-pub record Wide (m r : ℕ) : Type 0 where
-  pub few : r ≤ slots
-  pub below : m < 2 ^ r
 
 pub record Grew (m x : ℕ) (l l′ : List ℕ) : Type 0 where
   pub size : length l′ ≡ length l

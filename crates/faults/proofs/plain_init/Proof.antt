@@ -1,11 +1,6 @@
--- `faults::plain_init` meets its contract: what passes the tests is an init without a fault. Assumes nothing.
-use mathlib.Core.Bool.{_&&_, false≢true}
+-- `faults::plain_init` meets its contract: test by test; what passes is an init without a fault. Assumes nothing.
 use denote.Ref.{now}
-use lib.Dec.{eqb, ltb}
-use borrow.Author.Tests.{not-false}
-use Rattle.basis.proofs.BoolLaws.{and-parts}
-use Rattle.format.specs.Limits.{maxInits}
-use Rattle.faults.proofs.PlainLaws.{init-plain}
+use Rattle.faults.proofs.PlainLaws.{init-short, init-later, init-not, init-all}
 use borrow.Author.Needs.{needs}
 use Rattle.faults.proofs.plain_init.Statement.{statement}
 use Rattle.faults.proofs.plain_init.Tie as tie
@@ -14,7 +9,7 @@ add-short : tie.Need-add-short
 add-short c = search needs
 
 returns : tie.Need-returns
-returns c = λ h. absurd (false≢true h)
+returns c = init-short (now (c .before .before .before .args .s)) (c .before .before .before .args .p) (c .before .before .before .args .x) (now (c .before .before .before .args .at)) (c .if1 .taken)
 
 shape-at-requires : tie.Need-shape-at-requires
 shape-at-requires c κs = search needs
@@ -23,7 +18,7 @@ initial-requires : tie.Need-initial-requires
 initial-requires c κs = search needs
 
 returns-2 : tie.Need-returns-2
-returns-2 c = λ h. absurd (false≢true h)
+returns-2 c = init-later (now (c .before .before .before .before .before .before .args .s)) (c .before .before .before .before .before .before .args .p) (c .before .before .before .before .before .before .args .x) (now (c .before .before .before .before .before .before .args .at)) (c .before .before .before .if1 .left) (c .before .before .shape-at .result) (c .before .before .shape-at .ensures) (c .before .initial .result) (c .before .initial .ensures) (c .if2 .taken)
 
 agent-at-requires : tie.Need-agent-at-requires
 agent-at-requires c κs = search needs
@@ -35,17 +30,13 @@ event-ends-requires : tie.Need-event-ends-requires
 event-ends-requires c κs = search needs
 
 returns-3 : tie.Need-returns-3
-returns-3 c = λ h. absurd (false≢true h)
+returns-3 c = init-not (now (c .before .before .before .before .before .before .before .before .before .before .before .args .s)) (c .before .before .before .before .before .before .before .before .before .before .before .args .p) (c .before .before .before .before .before .before .before .before .before .before .before .args .x) (now (c .before .before .before .before .before .before .before .before .before .before .before .args .at)) (c .before .before .before .before .before .before .before .before .if1 .left) (c .before .before .before .before .before .before .before .shape-at .result) (c .before .before .before .before .before .before .before .shape-at .ensures) (c .before .before .before .before .before .before .initial .result) (c .before .before .before .before .before .before .initial .ensures) (c .before .before .before .before .before .if2 .left) (c .before .before .before .before .agent-at .result) (c .before .before .before .byte .result) (c .before .before .before .before .agent-at .ensures) (c .before .before .before .byte .ensures) (c .before .before .event-ends .result) (c .before .before .event-ends .ensures) (c .if3 .taken)
 
 event-fits-requires : tie.Need-event-fits-requires
 event-fits-requires c κs = search needs
 
 returns-4 : tie.Need-returns-4
-returns-4 c = λ h.
-    let v = and-parts (eqb (c .before .before .before .before .byte .result) 2 && c .before .before .before .event-ends .result) (eqb (c .before .before .before .before .before .agent-at .result) 0 && ltb (c .before .before .before .before .before .before .before .before .before .before .before .before .args .x .inits) maxInits) (not-false _ (c .before .if3 .left)) in
-    let e = and-parts (eqb (c .before .before .before .before .byte .result) 2) (c .before .before .before .event-ends .result) (v .0) in
-    let r = and-parts (eqb (c .before .before .before .before .before .agent-at .result) 0) (ltb (c .before .before .before .before .before .before .before .before .before .before .before .before .args .x .inits) maxInits) (v .1) in
-    init-plain (now (c .before .before .before .before .before .before .before .before .before .before .before .before .args .s)) (c .before .before .before .before .before .before .before .before .before .before .before .before .args .p) (c .before .before .before .before .before .before .before .before .before .before .before .before .args .x) (now (c .before .before .before .before .before .before .before .before .before .before .before .before .args .at)) (rw (c .before .before .before .before .byte .ensures) at (e .0)) (rw (c .before .before .before .event-ends .ensures, c .before .before .before .before .before .before .before .before .shape-at .ensures) at (e .1)) (rw (c .before .before .before .before .before .agent-at .ensures) at (r .0)) (r .1) (rw (c .event-fits .ensures, c .before .before .before .before .before .agent-at .ensures, c .before .before .before .before .before .before .before .before .shape-at .ensures) at h)
+returns-4 c = init-all (now (c .before .before .before .before .before .before .before .before .before .before .before .before .args .s)) (c .before .before .before .before .before .before .before .before .before .before .before .before .args .p) (c .before .before .before .before .before .before .before .before .before .before .before .before .args .x) (now (c .before .before .before .before .before .before .before .before .before .before .before .before .args .at)) (c .before .before .before .before .before .before .before .before .before .if1 .left) (c .before .before .before .before .before .before .before .before .shape-at .result) (c .before .before .before .before .before .before .before .before .shape-at .ensures) (c .before .before .before .before .before .before .before .initial .result) (c .before .before .before .before .before .before .before .initial .ensures) (c .before .before .before .before .before .before .if2 .left) (c .before .before .before .before .before .agent-at .result) (c .before .before .before .before .byte .result) (c .before .before .before .before .before .agent-at .ensures) (c .before .before .before .before .byte .ensures) (c .before .before .before .event-ends .result) (c .before .before .before .event-ends .ensures) (c .before .if3 .left) (c .event-fits .result) (c .event-fits .ensures)
 
 pub plain-init-spec : {M : Type 1} → statement M
 plain-init-spec =

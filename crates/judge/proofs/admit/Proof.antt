@@ -6,7 +6,7 @@ use Rattle.judge.proofs.admit.Statement.{statement}
 use Rattle.judge.proofs.admit.Tie as tie
 
 sub-n : tie.Need-sub-n
-sub-n c = inits-fit (c .before .before .before .before .before .pre)
+sub-n c = inits-fit (c .before .before .before .before .pre .1 .handed)
 
 cast-n : tie.Need-cast-n
 cast-n c = search needs
@@ -15,13 +15,13 @@ needed-requires : tie.Need-needed-requires
 needed-requires c κs = search needs
 
 returns : tie.Need-returns
-returns c = short-scratch (c .before .before .before .before .before .before .before .pre) (c .before .needed .ensures) (c .if1 .taken)
+returns c = short-scratch (c .before .before .before .before .before .before .pre .1 .handed) (c .before .needed .ensures) (c .if1 .taken)
 
 cast-if2 : tie.Need-cast-if2
 cast-if2 c = search needs
 
 returns-2 : tie.Need-returns-2
-returns-2 c = short-order (c .before .before .before .before .before .before .before .before .before .pre) (c .before .before .before .needed .ensures) (c .before .before .if1 .left) (c .if2 .taken)
+returns-2 c = short-order (c .before .before .before .before .before .before .before .before .pre .1 .handed) (c .before .before .before .needed .ensures) (c .before .before .if1 .left) (c .if2 .taken)
 
 weigh-requires : tie.Need-weigh-requires
 weigh-requires c κs = search needs
@@ -33,7 +33,7 @@ same-length-2 : tie.Need-same-length-2
 same-length-2 c = search needs
 
 returns-3 : tie.Need-returns-3
-returns-3 c = weighed-judged (admits (c .before .before .before .before .before .before .before .before .before .before .before .before .before .before .before .before .pre) (c .before .before .before .before .before .before .before .before .before .before .needed .ensures) (c .before .before .before .before .before .before .before .before .before .if1 .left) (c .before .before .before .before .before .before .before .if2 .left)) (c .before .before .before .before .weigh .ensures)
+returns-3 c = weighed-judged (admits (c .before .before .before .before .before .before .before .before .before .before .before .before .before .before .before .pre .1 .handed) (c .before .before .before .before .before .before .before .before .before .before .needed .ensures) (c .before .before .before .before .before .before .before .before .before .if1 .left) (c .before .before .before .before .before .before .before .if2 .left)) (c .before .before .before .before .before .before .before .before .before .before .before .before .before .before .before .pre .1 .events) (c .before .before .before .before .before .before .before .before .before .before .before .before .before .before .before .pre .1 .rows) (c .before .before .before .before .weigh .ensures)
 
 pub admit-spec : {M : Type 1} → statement M
 admit-spec =

@@ -4,8 +4,8 @@ use borrow.Author.Needs.{needs}
 use Rattle.judge.proofs.judge.Statement.{statement}
 use Rattle.judge.proofs.judge.Tie as tie
 
-read-requires : tie.Need-read-requires
-read-requires c κs = search needs
+fill-requires : tie.Need-fill-requires
+fill-requires c κs = search needs
 
 enum-known-reading : tie.Need-enum-known-reading
 enum-known-reading c = search needs
@@ -13,14 +13,11 @@ enum-known-reading c = search needs
 enum-told : tie.Need-enum-told
 enum-told c = search needs
 
-slice-aggregate-admit : tie.Need-slice-aggregate-admit
-slice-aggregate-admit c = search needs
-
 admit-requires : tie.Need-admit-requires
-admit-requires c κs = rw (c .before .before .before .enum-told .given .1) at (c .before .before .before .before .before .before .before .read .ensures)
+admit-requires c κs = (_, rw (c .before .before .before .before .enum-told .given .1) at (c .before .before .before .before .before .before .before .fill .ensures))
 
 returns : tie.Need-returns
-returns c = refused-sheet ((rw (c .before .reading .given .1) at (c .before .before .before .before .before .read .ensures)) .says)
+returns c = refused-sheet ((rw (c .before .reading .given .1) at (c .before .before .before .before .fill .ensures)) .says)
 
 same-length : tie.Need-same-length
 same-length c = search needs
@@ -29,16 +26,15 @@ same-length-2 : tie.Need-same-length-2
 same-length-2 c = search needs
 
 returns-2 : tie.Need-returns-2
-returns-2 c = c .before .before .before .before .admit .ensures
+returns-2 c = search needs
 
 pub judge-spec : {M : Type 1} → statement M
 judge-spec =
     tie.close
     (tie.spec
-    read-requires
+    fill-requires
     enum-known-reading
     enum-told
-    slice-aggregate-admit
     admit-requires
     returns
     same-length

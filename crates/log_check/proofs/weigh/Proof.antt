@@ -11,8 +11,8 @@ cast-events c = search needs
 cast-rows : tie.Need-cast-rows
 cast-rows c = search needs
 
-prepare-requires : tie.Need-prepare-requires
-prepare-requires c κs = search needs
+rule-requires : tie.Need-rule-requires
+rule-requires c κs = search needs
 
 enum-known-rule : tie.Need-enum-known-rule
 enum-known-rule c = search needs
@@ -24,10 +24,10 @@ check-requires : tie.Need-check-requires
 check-requires c κs = search needs
 
 returns : tie.Need-returns
-returns c = checked-broken (c .before .before .before .before .before .before .before .before .before .before .before .before .before .pre) (c .before .before .before .prepare .ensures) (c .before .rule .given .1)
+returns c = checked-broken (c .before .before .before .before .before .before .before .before .before .before .pre .1 .handed) (c .before .before .before .before .before .before .before .before .before .before .pre .1 .events) (c .before .before .before .before .before .before .before .before .before .before .pre .1 .rows) (c .before .before .before .rule .ensures) (c .before .rule2 .given .1)
 
 returns-2 : tie.Need-returns-2
-returns-2 c = checked-list (c .before .before .before .before .before .before .before .before .before .before .before .before .before .before .before .before .before .pre) (c .before .before .before .before .before .before .before .prepare .ensures) (c .before .before .before .before .before .enum-told .given .1) (now (c .before .before .before .before .before .before .before .before .before .before .before .before .before .before .before .before .before .args .list)) (c .check .ensures)
+returns-2 c = checked-list (c .before .before .before .before .before .before .before .before .before .before .before .before .pre .1 .handed) (c .before .before .before .before .before .before .before .before .before .before .before .before .pre .1 .events) (c .before .before .before .before .before .before .before .before .before .before .before .before .pre .1 .rows) (c .before .before .before .before .before .rule .ensures) (c .before .before .before .enum-told .given .1) (now (c .before .before .before .before .before .before .before .before .before .before .before .before .args .list)) (c .check .ensures)
 
 pub weigh-spec : {M : Type 1} → statement M
 weigh-spec =
@@ -35,7 +35,7 @@ weigh-spec =
     (tie.spec
     cast-events
     cast-rows
-    prepare-requires
+    rule-requires
     enum-known-rule
     enum-told
     check-requires

@@ -1,7 +1,6 @@
 -- `orders::descend` meets its contract: each event was the lowest that could be placed (`Going`). The way gets longer. Assumes nothing.
 use mathlib.Core.Path.{_≡_, refl, ap, _∙_}
 use mathlib.Core.Bool.{false≢true}
-use mathlib.Core.List.{List}
 use Prim.Native.Nat.{_-_, _%_, _<_}
 use native.Mathlib.Nat.{mod-eq-of-lt}
 use native.Mathlib.Omega.{arith}
@@ -11,7 +10,7 @@ use lib.ListN.{length, length-set}
 use Rattle.sets.specs.Mask.{slots, insert}
 use Rattle.orders.specs.Tables.{tabled}
 use Rattle.orders.proofs.StandLaws.{full-slots}
-use Rattle.orders.proofs.DescendLaws.{Going, going-start, going-on, going-deep, going-end}
+use Rattle.orders.proofs.DescendLaws.{free-lowest, Going, going-start, going-on, going-deep, going-end}
 use Rattle.orders.proofs.descend.Statement.{statement}
 use Rattle.orders.proofs.descend.Tie as tie
 
@@ -30,7 +29,7 @@ full-requires-2 c κs = search needs
 loop-holds : tie.Need-loop-holds Inv-loop μ-loop
 loop-holds c =
     let e = c .full2 .ensures ∙ full-slots (c .before .before .before .args .k) (omega (arith, c .before .before .before .pre .0, c .before .before .before .pre .1)) in
-    (rw e (going-start (c .before .before .before .args .m) (c .before .before .before .args .k) (now (c .before .before .before .args .before)) (now (c .before .before .before .args .bars)) (now (c .before .before .before .args .writers)) (c .before .before .before .pre .0) (c .before .before .before .pre .1) (c .before .before .before .pre .3) (now (c .before .before .before .args .path)) (c .before .before .before .pre .2)), refl)
+    (rw e (going-start (tabled (c .before .before .before .args .m) (now (c .before .before .before .args .before)) (now (c .before .before .before .args .bars))) (c .before .before .before .args .k) (c .before .before .before .pre .0) (c .before .before .before .pre .1) (now (c .before .before .before .args .path)) (c .before .before .before .pre .2)), refl)
 
 lowest-requires : tie.Need-lowest-requires Inv-loop μ-loop
 lowest-requires c κs = search needs
@@ -46,7 +45,7 @@ cast-path c = search needs
 
 slice-write-path : tie.Need-slice-write-path Inv-loop μ-loop
 slice-write-path c =
-    let d = going-deep (c .before .before .before .before .before .before .before .args .m) (c .before .before .before .before .before .before .before .args .k) (now (c .before .before .before .before .before .before .before .args .before)) (now (c .before .before .before .before .before .before .before .args .bars)) (now (c .before .before .before .before .before .before .before .args .writers)) (c .before .before .before .before .before .before .before .pre .0) (c .before .before .before .before .before .before .before .pre .1) (c .before .before .before .before .before .before .before .pre .3) (c .before .before .before .loop .inv .0) (omega (arith, c .if1 .left)) (c .before .lowest .ensures) in
+    let d = going-deep (tabled (c .before .before .before .before .before .before .before .args .m) (now (c .before .before .before .before .before .before .before .args .before)) (now (c .before .before .before .before .before .before .before .args .bars))) (c .before .before .before .before .before .before .before .args .k) (c .before .before .before .before .before .before .before .pre .0) (c .before .before .before .before .before .before .before .pre .1) (c .before .before .before .loop .inv .0) (omega (arith, c .if1 .left)) (free-lowest (c .before .before .before .before .before .before .before .args .m) (c .before .before .before .before .before .before .before .args .k) (now (c .before .before .before .before .before .before .before .args .before)) (now (c .before .before .before .before .before .before .before .args .bars)) (now (c .before .before .before .before .before .before .before .args .writers)) (c .before .before .before .before .before .before .before .pre .1) (c .before .before .before .before .before .before .before .pre .3) (c .before .lowest .ensures)) in
     let z = c .before .before .before .loop .inv .0 .way .cells in
     omega (arith, d, z, c .before .before .before .before .before .before .before .pre .1)
 
@@ -57,13 +56,13 @@ add-depth : tie.Need-add-depth Inv-loop μ-loop
 add-depth c = let z = c .before .before .before .before .loop .inv .0 .way .depth-le in omega (arith, z)
 
 loop-less : tie.Need-loop-less Inv-loop μ-loop
-loop-less c = let d = going-deep (c .before .before .before .before .before .before .before .before .args .m) (c .before .before .before .before .before .before .before .before .args .k) (now (c .before .before .before .before .before .before .before .before .args .before)) (now (c .before .before .before .before .before .before .before .before .args .bars)) (now (c .before .before .before .before .before .before .before .before .args .writers)) (c .before .before .before .before .before .before .before .before .pre .0) (c .before .before .before .before .before .before .before .before .pre .1) (c .before .before .before .before .before .before .before .before .pre .3) (c .before .before .before .before .loop .inv .0) (omega (arith, c .before .if1 .left)) (c .before .before .lowest .ensures) in omega (arith, d)
+loop-less c = let d = going-deep (tabled (c .before .before .before .before .before .before .before .before .args .m) (now (c .before .before .before .before .before .before .before .before .args .before)) (now (c .before .before .before .before .before .before .before .before .args .bars))) (c .before .before .before .before .before .before .before .before .args .k) (c .before .before .before .before .before .before .before .before .pre .0) (c .before .before .before .before .before .before .before .before .pre .1) (c .before .before .before .before .loop .inv .0) (omega (arith, c .before .if1 .left)) (free-lowest (c .before .before .before .before .before .before .before .before .args .m) (c .before .before .before .before .before .before .before .before .args .k) (now (c .before .before .before .before .before .before .before .before .args .before)) (now (c .before .before .before .before .before .before .before .before .args .bars)) (now (c .before .before .before .before .before .before .before .before .args .writers)) (c .before .before .before .before .before .before .before .before .pre .1) (c .before .before .before .before .before .before .before .before .pre .3) (c .before .before .lowest .ensures)) in omega (arith, d)
 
 loop-again : tie.Need-loop-again Inv-loop μ-loop
 loop-again c =
     let l = c .before .before .before .before .loop in
     let h : c .before .before .lowest .result < c .before .before .before .before .before .before .before .before .args .m = omega (arith, c .before .if1 .left) in
-    let g = going-on (c .before .before .before .before .before .before .before .before .args .m) (c .before .before .before .before .before .before .before .before .args .k) (now (c .before .before .before .before .before .before .before .before .args .before)) (now (c .before .before .before .before .before .before .before .before .args .bars)) (now (c .before .before .before .before .before .before .before .before .args .writers)) (c .before .before .before .before .before .before .before .before .pre .0) (c .before .before .before .before .before .before .before .before .pre .1) (c .before .before .before .before .before .before .before .before .pre .3) (l .inv .0) h (c .before .before .lowest .ensures) in
+    let g = going-on (tabled (c .before .before .before .before .before .before .before .before .args .m) (now (c .before .before .before .before .before .before .before .before .args .before)) (now (c .before .before .before .before .before .before .before .before .args .bars))) (c .before .before .before .before .before .before .before .before .args .k) (c .before .before .before .before .before .before .before .before .pre .0) (c .before .before .before .before .before .before .before .before .pre .1) (l .inv .0) h (free-lowest (c .before .before .before .before .before .before .before .before .args .m) (c .before .before .before .before .before .before .before .before .args .k) (now (c .before .before .before .before .before .before .before .before .args .before)) (now (c .before .before .before .before .before .before .before .before .args .bars)) (now (c .before .before .before .before .before .before .before .before .args .writers)) (c .before .before .before .before .before .before .before .before .pre .1) (c .before .before .before .before .before .before .before .before .pre .3) (c .before .before .lowest .ensures)) in
     let slot : c .before .before .lowest .result % slots ≡ c .before .before .lowest .result = mod-eq-of-lt (omega (arith, h, c .before .before .before .before .before .before .before .before .pre .1)) in
     (rw (c .with .ensures ∙ ap (insert (l .s)) slot) g, length-set (l .path) (l .depth) _ ∙ l .inv .1)
 
@@ -73,7 +72,7 @@ same-length-2 c = c .before .loop .inv .1
 returns-2 : tie.Need-returns-2 Inv-loop μ-loop
 returns-2 c =
     let e = c .before .before .before .full .ensures ∙ full-slots (c .before .before .before .before .before .args .m) (c .before .before .before .before .before .pre .1) in
-    record { found = λ z. going-end (c .before .before .before .before .before .args .m) (c .before .before .before .before .before .args .k) (now (c .before .before .before .before .before .args .before)) (now (c .before .before .before .before .before .args .bars)) (now (c .before .before .before .before .before .args .writers)) (c .before .before .before .before .before .pre .0) (c .before .before .before .before .before .pre .1) (c .before .before .before .before .before .pre .3) (c .before .loop .inv .0) (c .loop-test .left ∙ e) }
+    record { found = λ z. going-end (tabled (c .before .before .before .before .before .args .m) (now (c .before .before .before .before .before .args .before)) (now (c .before .before .before .before .before .args .bars))) (c .before .before .before .before .before .args .k) (c .before .before .before .before .before .pre .0) (c .before .before .before .before .before .pre .1) (c .before .loop .inv .0) (c .loop-test .left ∙ e) }
 
 pub descend-spec : {M : Type 1} → statement M
 descend-spec =

@@ -1,13 +1,10 @@
--- `orders::search` meets its contract: cleared, and walked down; where that ends before all are placed, pressed, walked through, and cleared again.
--- Assumes nothing.
-use mathlib.Core.Path.{refl}
+-- `orders::search` meets its contract: cleared, and walked down; where that ends before all are placed, by `through`. Assumes nothing.
 use Prim.Native.Nat.{_-_}
 use native.Mathlib.Omega.{arith}
 use denote.Ref.{now}
 use Rattle.orders.specs.Tables.{tabled}
 use Rattle.orders.proofs.TablesLaws.{gathered}
-use Rattle.orders.proofs.ForcedLaws.{forced-searched}
-use Rattle.orders.proofs.AnswerLaws.{needed-slots, starts, searched, searched-first, searched-none}
+use Rattle.orders.proofs.AnswerLaws.{needed-slots, clean-cleared, searched-first, searched-from}
 use borrow.Author.Needs.{needs}
 use Rattle.orders.proofs.search.Statement.{statement}
 use Rattle.orders.proofs.search.Tie as tie
@@ -29,7 +26,8 @@ clear-requires c κs = search needs
 
 descend-requires : tie.Need-descend-requires
 descend-requires c κs =
-    (c .before .before .before .before .before .before .before .before .before .before .before .before .pre .0 .inits, c .before .before .before .before .before .before .before .before .before .before .before .before .pre .0 .events, c .before .before .before .before .before .before .before .before .before .before .before .before .pre .1, gathered (c .before .before .before .before .before .before .before .before .before .before .before .before .args .m) (now (c .before .before .before .before .before .before .before .before .before .before .before .before .args .bars)) _ _ (c .before .before .before .before .before .before .before .before .before .before .before .before .pre .0 .events) (omega arith) (c .before .before .before .before .before .before .before .before .gather .ensures))
+    let a = c .before .before .before .before .before .before .before .before .before .before .before .before .args in
+    (c .before .before .before .before .before .before .before .before .before .before .before .before .pre .0 .inits, c .before .before .before .before .before .before .before .before .before .before .before .before .pre .0 .events, c .before .before .before .before .before .before .before .before .before .before .before .before .pre .1, gathered (a .m) (now (a .bars)) _ _ (c .before .before .before .before .before .before .before .before .before .before .before .before .pre .0 .events) (omega arith) (c .before .before .before .before .before .before .before .before .gather .ensures))
 
 same-length : tie.Need-same-length
 same-length c = search needs
@@ -39,15 +37,15 @@ same-length-2 c = search needs
 
 returns : tie.Need-returns
 returns c =
-    let f = c .before .before .before .before .before .before .before .before .before .before .before .before .before .before .before .before .pre .0 in
-    let n = needed-slots (c .before .before .before .before .before .before .before .before .before .before .before .before .before .before .before .before .args .m - c .before .before .before .before .before .before .before .before .before .before .before .before .before .before .before .before .args .k) (c .before .before .before .before .before .before .before .before .before .before .needed .result) (let z = f .events in omega (arith, z)) (c .before .before .before .before .before .before .before .before .before .before .needed .ensures) in
-    searched-first (tabled (c .before .before .before .before .before .before .before .before .before .before .before .before .before .before .before .before .args .m) (now (c .before .before .before .before .before .before .before .before .before .before .before .before .before .before .before .before .args .before)) (now (c .before .before .before .before .before .before .before .before .before .before .before .before .before .before .before .before .args .bars))) (c .before .before .before .before .before .before .before .before .before .before .before .before .before .before .before .before .args .k) (now (c .before .before .before .before .before .before .before .before .before .before .before .before .before .before .before .before .args .scratch)) (c .before .before .before .before .before .before .before .before .before .before .needed .result) n (c .before .before .before .before .before .before .before .before .clear .ensures) (c .if1 .taken) (c .before .before .before .descend .ensures)
+    let a = c .before .before .before .before .before .before .before .before .before .before .before .before .before .before .before .before .args in
+    let n = needed-slots (a .m - a .k) (c .before .before .before .before .before .before .before .before .before .before .needed .result) (let z = c .before .before .before .before .before .before .before .before .before .before .before .before .before .before .before .before .pre .0 .events in omega (arith, z)) (c .before .before .before .before .before .before .before .before .before .before .needed .ensures) in
+    searched-first (tabled (a .m) (now (a .before)) (now (a .bars))) (a .k) (now (a .scratch)) (c .before .before .before .before .before .before .before .before .before .before .needed .result) (c .before .before .before .before .before .before .before .before .before .before .before .before .before .before .before .before .pre .0) n (c .before .before .before .before .before .before .before .before .clear .ensures) (c .if1 .taken) (c .before .before .before .descend .ensures)
 
-slice-aggregate-force : tie.Need-slice-aggregate-force
-slice-aggregate-force c = search needs
-
-force-requires : tie.Need-force-requires
-force-requires c κs = (c .before .before .before .before .before .before .before .before .before .before .before .before .before .before .before .before .before .before .pre .0 .inits, c .before .before .before .before .before .before .before .before .before .before .before .before .before .before .before .before .before .before .pre .0 .events, refl, gathered (c .before .before .before .before .before .before .before .before .before .before .before .before .before .before .before .before .before .before .args .m) (now (c .before .before .before .before .before .before .before .before .before .before .before .before .before .before .before .before .before .before .args .bars)) _ _ (c .before .before .before .before .before .before .before .before .before .before .before .before .before .before .before .before .before .before .pre .0 .events) (omega arith) (c .before .before .before .before .before .before .before .before .before .before .before .before .before .before .gather .ensures))
+through-requires : tie.Need-through-requires
+through-requires c κs =
+    let a = c .before .before .before .before .before .before .before .before .before .before .before .before .before .before .before .before .before .before .before .args in
+    let n = needed-slots (a .m - a .k) (c .before .before .before .before .before .before .before .before .before .before .before .before .before .needed .result) (let z = c .before .before .before .before .before .before .before .before .before .before .before .before .before .before .before .before .before .before .before .pre .0 .events in omega (arith, z)) (c .before .before .before .before .before .before .before .before .before .before .before .before .before .needed .ensures) in
+    (clean-cleared (a .k) (a .m) (now (a .scratch)) (c .before .before .before .before .before .before .before .before .before .before .before .before .before .needed .result) (c .before .before .before .before .before .before .before .before .before .before .before .before .before .before .before .before .before .before .before .pre .0) n (c .before .before .before .before .before .before .before .before .before .before .before .clear .ensures), search needs, gathered (a .m) (now (a .bars)) _ _ (c .before .before .before .before .before .before .before .before .before .before .before .before .before .before .before .before .before .before .before .pre .0 .events) (omega arith) (c .before .before .before .before .before .before .before .before .before .before .before .before .before .before .before .gather .ensures))
 
 same-length-3 : tie.Need-same-length-3
 same-length-3 c = search needs
@@ -57,30 +55,9 @@ same-length-4 c = search needs
 
 returns-2 : tie.Need-returns-2
 returns-2 c =
-    let f = c .before .before .before .before .before .before .before .before .before .before .before .before .before .before .before .before .before .before .before .before .before .pre .0 in
-    let n = needed-slots (c .before .before .before .before .before .before .before .before .before .before .before .before .before .before .before .before .before .before .before .before .before .args .m - c .before .before .before .before .before .before .before .before .before .before .before .before .before .before .before .before .before .before .before .before .before .args .k) (c .before .before .before .before .before .before .before .before .before .before .before .before .before .before .before .needed .result) (let z = f .events in omega (arith, z)) (c .before .before .before .before .before .before .before .before .before .before .before .before .before .before .before .needed .ensures) in
-    searched-none (tabled (c .before .before .before .before .before .before .before .before .before .before .before .before .before .before .before .before .before .before .before .before .before .args .m) (now (c .before .before .before .before .before .before .before .before .before .before .before .before .before .before .before .before .before .before .before .before .before .args .before)) (now (c .before .before .before .before .before .before .before .before .before .before .before .before .before .before .before .before .before .before .before .before .before .args .bars))) (c .before .before .before .before .before .before .before .before .before .before .before .before .before .before .before .before .before .before .before .before .before .args .k) (now (c .before .before .before .before .before .before .before .before .before .before .before .before .before .before .before .before .before .before .before .before .before .args .scratch)) (c .before .before .before .before .before .before .before .before .before .before .before .before .before .before .before .needed .result) n (c .before .before .before .before .before .before .before .before .before .before .before .before .before .clear .ensures) (c .before .before .force .ensures .none (c .if2 .taken))
-
-walk-requires : tie.Need-walk-requires
-walk-requires c κs =
-    let f = c .before .before .before .before .before .before .before .before .before .before .before .before .before .before .before .before .before .before .before .before .before .before .before .before .before .pre .0 in
-    let n = needed-slots (c .before .before .before .before .before .before .before .before .before .before .before .before .before .before .before .before .before .before .before .before .before .before .before .before .before .args .m - c .before .before .before .before .before .before .before .before .before .before .before .before .before .before .before .before .before .before .before .before .before .before .before .before .before .args .k) (c .before .before .before .before .before .before .before .before .before .before .before .before .before .before .before .before .before .before .before .needed .result) (let z = f .events in omega (arith, z)) (c .before .before .before .before .before .before .before .before .before .before .before .before .before .before .before .before .before .before .before .needed .ensures) in
-    (starts (tabled (c .before .before .before .before .before .before .before .before .before .before .before .before .before .before .before .before .before .before .before .before .before .before .before .before .before .args .m) (c .before .before .before .before .before .before .force .last .1 .1 .1 .1 .1 .0) (now (c .before .before .before .before .before .before .before .before .before .before .before .before .before .before .before .before .before .before .before .before .before .before .before .before .before .args .bars))) (c .before .before .before .before .before .before .before .before .before .before .before .before .before .before .before .before .before .before .before .before .before .before .before .before .before .args .k) (now (c .before .before .before .before .before .before .before .before .before .before .before .before .before .before .before .before .before .before .before .before .before .before .before .before .before .args .scratch)) (c .before .before .before .before .before .before .before .before .before .before .before .before .descend .last .1 .1 .1 .1 .1 .0) (c .before .before .before .before .before .before .before .before .before .before .before .before .before .before .before .before .before .clear .last .0) (c .before .before .before .before .before .before .before .before .before .before .before .before .before .before .before .before .before .before .before .needed .result) f (search needs) n (c .before .before .before .before .before .before .before .before .before .before .before .before .before .before .before .before .before .clear .ensures), gathered (c .before .before .before .before .before .before .before .before .before .before .before .before .before .before .before .before .before .before .before .before .before .before .before .before .before .args .m) (now (c .before .before .before .before .before .before .before .before .before .before .before .before .before .before .before .before .before .before .before .before .before .before .before .before .before .args .bars)) _ _ (c .before .before .before .before .before .before .before .before .before .before .before .before .before .before .before .before .before .before .before .before .before .before .before .before .before .pre .0 .events) (omega arith) (c .before .before .before .before .before .before .before .before .before .before .before .before .before .before .before .before .before .before .before .before .before .gather .ensures))
-
-clear-requires-2 : tie.Need-clear-requires-2
-clear-requires-2 c κs = search needs
-
-same-length-5 : tie.Need-same-length-5
-same-length-5 c = search needs
-
-same-length-6 : tie.Need-same-length-6
-same-length-6 c = search needs
-
-returns-3 : tie.Need-returns-3
-returns-3 c =
-    let f = c .before .before .before .before .before .before .before .before .before .before .before .before .before .before .before .before .before .before .before .before .before .before .before .before .before .before .before .before .before .before .before .before .before .before .pre .0 in
-    let n = needed-slots (c .before .before .before .before .before .before .before .before .before .before .before .before .before .before .before .before .before .before .before .before .before .before .before .before .before .before .before .before .before .before .before .before .before .before .args .m - c .before .before .before .before .before .before .before .before .before .before .before .before .before .before .before .before .before .before .before .before .before .before .before .before .before .before .before .before .before .before .before .before .before .before .args .k) (c .before .before .before .before .before .before .before .before .before .before .before .before .before .before .before .before .before .before .before .before .before .before .before .before .before .before .before .before .needed .result) (let z = f .events in omega (arith, z)) (c .before .before .before .before .before .before .before .before .before .before .before .before .before .before .before .before .before .before .before .before .before .before .before .before .before .before .before .before .needed .ensures) in
-    forced-searched (c .before .before .before .before .before .before .before .before .before .before .before .before .before .before .before .before .before .before .before .before .before .before .before .before .before .before .before .before .before .before .before .before .before .before .args .m) (c .before .before .before .before .before .before .before .before .before .before .before .before .before .before .before .before .before .before .before .before .before .before .before .before .before .before .before .before .before .before .before .before .before .before .args .k) (now (c .before .before .before .before .before .before .before .before .before .before .before .before .before .before .before .before .before .before .before .before .before .before .before .before .before .before .before .before .before .before .before .before .before .before .args .before)) (now (c .before .before .before .before .before .before .before .before .before .before .before .before .before .before .before .before .before .before .before .before .before .before .before .before .before .before .before .before .before .before .before .before .before .before .args .bars)) (c .before .before .before .before .before .before .before .before .before .before .before .before .before .before .before .force .ensures .still) (searched (tabled (c .before .before .before .before .before .before .before .before .before .before .before .before .before .before .before .before .before .before .before .before .before .before .before .before .before .before .before .before .before .before .before .before .before .before .args .m) (c .before .before .before .before .before .before .before .before .before .before .before .before .before .before .before .force .last .1 .1 .1 .1 .1 .0) (now (c .before .before .before .before .before .before .before .before .before .before .before .before .before .before .before .before .before .before .before .before .before .before .before .before .before .before .before .before .before .before .before .before .before .before .args .bars))) (c .before .before .before .before .before .before .before .before .before .before .before .before .before .before .before .before .before .before .before .before .before .before .before .before .before .before .before .before .before .before .before .before .before .before .args .k) (now (c .before .before .before .before .before .before .before .before .before .before .before .before .before .before .before .before .before .before .before .before .before .before .before .before .before .before .before .before .before .before .before .before .before .before .args .scratch)) (c .before .before .before .before .before .before .before .before .before .before .before .before .before .before .before .before .before .before .before .before .before .before .before .before .before .before .before .before .needed .result) f n (c .before .before .before .before .before .before .before .before .before .before .before .before .before .before .before .before .before .before .before .before .before .before .before .before .before .before .clear .ensures) (c .before .before .before .before .before .before .before .before .walk .ensures) (c .before .before .clear2 .ensures))
+    let a = c .before .before .before .before .before .before .before .before .before .before .before .before .before .before .before .before .before .before .before .before .before .before .before .before .args in
+    let n = needed-slots (a .m - a .k) (c .before .before .before .before .before .before .before .before .before .before .before .before .before .before .before .before .before .before .needed .result) (let z = c .before .before .before .before .before .before .before .before .before .before .before .before .before .before .before .before .before .before .before .before .before .before .before .before .pre .0 .events in omega (arith, z)) (c .before .before .before .before .before .before .before .before .before .before .before .before .before .before .before .before .before .before .needed .ensures) in
+    searched-from (tabled (a .m) (now (a .before)) (now (a .bars))) (a .k) (now (a .scratch)) (c .before .before .before .before .before .before .before .before .before .before .before .before .before .before .before .before .before .before .needed .result) (c .before .before .before .before .before .before .before .before .before .before .before .before .before .before .before .before .before .before .before .before .before .before .before .before .pre .0) n (c .before .before .before .before .before .before .before .before .before .before .before .before .before .before .before .before .clear .ensures) (c .before .before .before .before .through .ensures)
 
 pub search-spec : {M : Type 1} → statement M
 search-spec =
@@ -95,13 +72,7 @@ search-spec =
     same-length
     same-length-2
     returns
-    slice-aggregate-force
-    force-requires
+    through-requires
     same-length-3
     same-length-4
-    returns-2
-    walk-requires
-    clear-requires-2
-    same-length-5
-    same-length-6
-    returns-3)
+    returns-2)

@@ -1,4 +1,4 @@
--- An event's own mask (`ownIn`, specs/Own.antt) by a mask for each agent. Laws: proofs/OwnLaws.antt.
+-- What is later and earlier in an agent's order (`laterOf`, `earlierOf`, specs/Own.antt) by a mask for each agent. Laws: proofs/OwnLaws.antt.
 --     agentsIn t n l       the masks l, of which each agent's has gained its events below n
 --     behindIn t by e      the events of e's agent behind e           aheadIn t by e     those ahead of it
 --     laterBy, earlierBy t by e     the same, and nothing for an init

@@ -1,7 +1,7 @@
 -- `settle::partner` meets its contract: `left` has those to try of which nothing is known yet. The measure is `left`, which gets smaller as a number.
 -- Assumes nothing.
 use mathlib.Core.Path.{_≡_, sym, ap, _∙_, subst}
-use Prim.Native.Nat.{ℕ, _%_, min}
+use Prim.Native.Nat.{ℕ, _%_}
 use native.Mathlib.Nat.{mod-eq-of-lt}
 use native.Mathlib.Omega.{arith}
 use denote.Ref.{now}
@@ -12,41 +12,40 @@ use Rattle.cells.specs.Walk.{picked}
 use Rattle.cells.proofs.FirstLaws.{Left, left-lowest, left-next}
 use Rattle.settle.specs.steps.Ahead.{aheadIn, freeIn}
 use Rattle.settle.proofs.SettleLaws.{ahead-is, partner-start, partner-hit, partner-end}
+use Rattle.settle.proofs.BehindLaws.{behind-cut}
 use borrow.Author.Needs.{needs}
 use Rattle.settle.proofs.partner.Statement.{statement}
 use Rattle.settle.proofs.partner.Tie as tie
 
 abbrev Inv-loop : tie.InvT-loop
-Inv-loop t succ n e left₀ left = Left (freeIn t succ (e % slots)) (picked (min n slots) (aheadIn (getD succ (e % slots) 0) (e % slots))) left
+Inv-loop t succ alone behind n e left₀ left = Left (freeIn t succ (e % slots)) (picked n (aheadIn (getD succ (e % slots) 0) (e % slots))) left
 
 abbrev μ-loop : tie.MeasureT-loop
-μ-loop t succ n e left₀ left = left
+μ-loop t succ alone behind n e left₀ left = left
 
-mul-rest : tie.Need-mul-rest Inv-loop μ-loop
-mul-rest c = search needs
+mul-except : tie.Need-mul-except Inv-loop μ-loop
+mul-except c = search needs
 
-element-copy-out-rest : tie.Need-element-copy-out-rest Inv-loop μ-loop
-element-copy-out-rest c = search needs
+element-copy-out-except : tie.Need-element-copy-out-except Inv-loop μ-loop
+element-copy-out-except c = search needs
 
-add-rest : tie.Need-add-rest Inv-loop μ-loop
-add-rest c = search needs
-
-rest-requires : tie.Need-rest-requires Inv-loop μ-loop
-rest-requires c κs = search needs
+except-requires : tie.Need-except-requires Inv-loop μ-loop
+except-requires c κs = search needs
 
 loop-holds : tie.Need-loop-holds Inv-loop μ-loop
 loop-holds c =
     let t = now (c .before .before .args .t) in
     let s = now (c .before .before .args .succ) in
-    let n = min (c .before .before .args .n) slots in
-    let e = c .before .before .args .e % slots in
-    subst (Left (freeIn t s e) (picked n (aheadIn (getD s e 0) e))) (sym (ahead-is (getD s e 0) n e (c .rest .result) (c .rest .ensures))) (partner-start t s n e (omega arith))
+    let n : ℕ = c .before .before .args .n in
+    let e : ℕ = c .before .before .args .e % slots in
+    let row : ℕ = getD s e 0 in
+    subst (Left (freeIn t s e) (picked n (aheadIn row e))) (sym (ahead-is row n e (c .except .result) (behind-cut (c .before .before .pre .2) (c .except .ensures)))) (partner-start t s n e (c .before .before .pre .1))
 
 lowest-requires : tie.Need-lowest-requires Inv-loop μ-loop
 lowest-requires c κs = search needs
 
-loose-requires : tie.Need-loose-requires Inv-loop μ-loop
-loose-requires c κs = search needs
+free-requires : tie.Need-free-requires Inv-loop μ-loop
+free-requires c κs = c .before .before .before .before .before .pre .0
 
 returns : tie.Need-returns Inv-loop μ-loop
 returns c =
@@ -55,8 +54,8 @@ returns c =
     let e = c .before .before .before .before .before .before .before .args .e % slots in
     let d : ℕ = c .before .before .lowest .result in
     let at = left-lowest (c .before .before .before .before .loop .inv) d (c .before .before .lowest .ensures) (c .before .before .before .loop-test .taken) in
-    let f : c .before .loose .result ≡ freeIn t s e d = c .before .loose .ensures ∙ ap (freeIn t s e) (mod-eq-of-lt (at .1)) in
-    partner-hit t s (min (c .before .before .before .before .before .before .before .args .n) slots) e (omega arith) (c .before .before .before .before .loop .inv) d (c .before .before .lowest .ensures) (c .before .before .before .loop-test .taken) (sym f ∙ c .if1 .taken)
+    let f : c .before .free .result ≡ freeIn t s e d = c .before .free .ensures ∙ ap (freeIn t s e) (mod-eq-of-lt (at .1)) in
+    partner-hit t s (c .before .before .before .before .before .before .before .args .n) e (c .before .before .before .before .before .before .before .pre .1) (c .before .before .before .before .loop .inv) d (c .before .before .lowest .ensures) (c .before .before .before .loop-test .taken) (sym f ∙ c .if1 .taken)
 
 without-requires : tie.Need-without-requires Inv-loop μ-loop
 without-requires c κs = search needs
@@ -76,16 +75,11 @@ loop-again c =
     let d : ℕ = c .before .before .before .lowest .result in
     let at = left-lowest (c .before .before .before .before .before .loop .inv) d (c .before .before .before .lowest .ensures) (c .before .before .before .before .loop-test .taken) in
     let r : c .without .result ≡ remove (c .before .before .before .before .before .loop .left) d = c .without .ensures ∙ ap (remove (c .before .before .before .before .before .loop .left)) (mod-eq-of-lt (at .1)) in
-    let f : c .before .before .loose .result ≡ freeIn t s e d = c .before .before .loose .ensures ∙ ap (freeIn t s e) (mod-eq-of-lt (at .1)) in
-    subst (Left (freeIn t s e) (picked (min (c .before .before .before .before .before .before .before .before .args .n) slots) (aheadIn (getD s e 0) e))) (sym r) (left-next (c .before .before .before .before .before .loop .inv) d (sym f ∙ c .before .if1 .left))
-
-least-requires : tie.Need-least-requires Inv-loop μ-loop
-least-requires c κs = search needs
+    let f : c .before .before .free .result ≡ freeIn t s e d = c .before .before .free .ensures ∙ ap (freeIn t s e) (mod-eq-of-lt (at .1)) in
+    subst (Left (freeIn t s e) (picked (c .before .before .before .before .before .before .before .before .args .n) (aheadIn (getD s e 0) e))) (sym r) (left-next (c .before .before .before .before .before .loop .inv) d (sym f ∙ c .before .if1 .left))
 
 returns-2 : tie.Need-returns-2 Inv-loop μ-loop
-returns-2 c =
-    c .least .ensures
-    ∙ partner-end (now (c .before .before .before .before .before .args .t)) (now (c .before .before .before .before .before .args .succ)) (min (c .before .before .before .before .before .args .n) slots) (c .before .before .before .before .before .args .e % slots) (omega arith) (c .before .before .loop .inv) (c .before .loop-test .left)
+returns-2 c = partner-end (now (c .before .before .before .before .args .t)) (now (c .before .before .before .before .args .succ)) (c .before .before .before .before .args .n) (c .before .before .before .before .args .e % slots) (c .before .before .before .before .pre .1) (c .before .loop .inv) (c .loop-test .left)
 
 pub partner-spec : {M : Type 1} → statement M
 partner-spec =
@@ -93,16 +87,14 @@ partner-spec =
     (tie.spec
     Inv-loop
     μ-loop
-    mul-rest
-    element-copy-out-rest
-    add-rest
-    rest-requires
+    mul-except
+    element-copy-out-except
+    except-requires
     loop-holds
     lowest-requires
-    loose-requires
+    free-requires
     returns
     without-requires
     loop-less
     loop-again
-    least-requires
     returns-2)

@@ -1,23 +1,11 @@
 -- `sheet::reader::read_width` meets its contract: nothing, or the width. Assumes nothing.
-use mathlib.Core.Path.{_≡_, sym, ap, _∙_}
-use mathlib.Core.Bool.{Bool, true, false, cond}
-use Prim.Native.Nat.{ℕ, _*_, _≤_}
+use mathlib.Core.Path.{ap, _∙_}
+use mathlib.Core.Bool.{Bool, cond}
 use native.Mathlib.Omega.{arith}
-use native.Mathlib.Nat.{one-mul, zero-mul}
-use mir.Val.{boolByte}
-use Rattle.format.specs.Shape.{reads}
+use Rattle.sheet.proofs.TallyLaws.{by-test, at-most}
 use borrow.Author.Needs.{needs}
 use Rattle.sheet.proofs.reader.read_width.Statement.{statement}
 use Rattle.sheet.proofs.reader.read_width.Tie as tie
-
--- a number, or nothing
-by-test : (b : Bool) (w : ℕ) → boolByte b * w ≡ cond b w 0
-by-test true w = one-mul w
-by-test false w = zero-mul w
-
-at-most : (b : Bool) (w : ℕ) → w ≤ 255 → cond b w 0 ≤ 255
-at-most true w h = h
-at-most false w h = omega arith
 
 reads-requires : tie.Need-reads-requires
 reads-requires c κs = search needs

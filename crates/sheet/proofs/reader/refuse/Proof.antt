@@ -1,4 +1,4 @@
--- `sheet::reader::refuse` meets its contract: blank counts and places. Assumes nothing.
+-- `sheet::reader::refuse` meets its contract: blank counts. Assumes nothing.
 use borrow.Author.Needs.{needs}
 use Rattle.sheet.proofs.reader.refuse.Statement.{statement}
 use Rattle.sheet.proofs.reader.refuse.Tie as tie

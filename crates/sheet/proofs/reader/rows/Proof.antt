@@ -1,56 +1,69 @@
--- `sheet::reader::rows` meets its contract. The invariant: the whole answer is the answer from this place on, behind an event or a row. The measure is what is
--- left of the sheet. Assumes nothing.
-use mathlib.Core.Path.{_≡_}
-use mathlib.Core.Bool.{true}
-use Prim.Native.Nat.{_-_}
+-- `sheet::reader::rows` meets its contract. The invariant: the whole answer is the answer from this place on, behind an event or a row, and the table holds the rows so far. The
+-- measure is what is left of the sheet. Assumes nothing.
+use mathlib.Core.Path.{_≡_, sym, ap, _∙_}
+use mathlib.Core.List.{List}
+use Prim.Native.Nat.{ℕ, _-_}
 use denote.Ref.{now}
 use native.Mathlib.Omega.{arith}
-use borrow.Author.Needs.{needs}
-use borrow.Author.Tests.{not-false}
+use borrow.Author.Tests.{not-false, not-true}
 use lib.ListN.{length}
-use Rattle.content.specs.Content.{within}
-use Rattle.content.proofs.ContentLaws.{within-elim, within-holds}
-use Rattle.entries.specs.Entries.{eventsIn}
-use Rattle.sheet.specs.steps.Between.{Turn, Tallied}
-use Rattle.sheet.proofs.PlainLaws.{row-reach, row-room, row-next}
+use Rattle.sheet.specs.steps.Between.{Rowing}
+use Rattle.sheet.proofs.TabledLaws.{rows-of}
+use Rattle.sheet.proofs.GrowingLaws.{rowing-start, rowing-asks, rowing-left, rowing-few, rowing-reach, rowing-next, rowing-end}
+use borrow.Author.Needs.{needs}
 use Rattle.sheet.proofs.reader.rows.Statement.{statement}
 use Rattle.sheet.proofs.reader.rows.Tie as tie
 
 abbrev Inv-loop : tie.InvT-loop
-Inv-loop s at x₀ t last₀ p₀ x last p = Turn s p last x at × (within 1 3 last ≡ true) × Tallied (eventsIn s x at) t
+Inv-loop s at t q₀ x k n₀ last₀ p₀ q n last p = Rowing s x at t k n₀ p₀ q₀ n last p q
 
 abbrev μ-loop : tie.MeasureT-loop
-μ-loop s at x₀ t last₀ p₀ x last p = length s - p
+μ-loop s at t q₀ x k n₀ last₀ p₀ q n last p = length s - p
 
 returns : tie.Need-returns Inv-loop μ-loop
-returns c = c .before .before .before .before .before .pre
+returns c = (c .before .before .before .before .before .before .pre .0, λ t₀ q₀ g. g)
 
 loop-holds : tie.Need-loop-holds Inv-loop μ-loop
-loop-holds c = (c .before .before .before .before .before .pre .turn, rw (c .if1 .left) (within-holds 1 3 2 (omega arith) (omega arith)), c .before .before .before .before .before .pre .tallied)
+loop-holds c = rowing-start (now (c .before .before .before .before .before .before .args .s)) (c .before .before .before .before .before .before .args .spot) (now (c .before .before .before .before .before .before .args .at)) (now (c .before .before .before .before .before .before .args .t)) (now (c .before .before .before .before .before .before .args .q)) (c .before .before .before .before .before .before .pre .0) (c .before .before .before .before .before .before .pre .1) (c .if1 .left)
 
 cast-loop : tie.Need-cast-loop Inv-loop μ-loop
 cast-loop c = omega arith
 
-plain-row-requires : tie.Need-plain-row-requires Inv-loop μ-loop
-plain-row-requires c κs = (c .before .loop .inv .0, (let w = within-elim 1 3 (c .before .loop .last) (c .before .loop .inv .1) in omega arith))
+with-rows-requires : tie.Need-with-rows-requires Inv-loop μ-loop
+with-rows-requires c κs = search needs
+
+take-row-requires : tie.Need-take-row-requires Inv-loop μ-loop
+take-row-requires c κs = rw (c .before .with-rows .ensures) (rowing-asks (now (c .before .before .before .before .before .before .before .before .before .before .args .s)) (c .before .before .before .before .before .before .before .before .before .before .args .spot .x) (now (c .before .before .before .before .before .before .before .before .before .before .args .at)) (now (c .before .before .before .before .before .before .before .before .before .before .args .t)) (c .before .before .before .before .before .before .before .before .before .before .args .spot .t) (c .before .before .before .before .before .before .before .before .before .before .args .spot .x .rows) (c .before .before .before .before .before .before .before .before .before .before .args .spot .p) (now (c .before .before .before .before .before .before .before .before .before .before .args .q)) (c .before .before .before .loop .n) (c .before .before .before .loop .last) (c .before .before .before .loop .p) (c .before .before .before .loop .q) (c .before .before .before .loop .inv))
+
+with-rows-requires-2 : tie.Need-with-rows-requires-2 Inv-loop μ-loop
+with-rows-requires-2 c κs = search needs
+
+same-length : tie.Need-same-length Inv-loop μ-loop
+same-length c = ap length (c .before .before .before .before .take-row .ensures .left (not-true _ (c .before .if2 .taken))) ∙ c .before .before .before .before .before .before .before .before .loop .inv .size
 
 returns-2 : tie.Need-returns-2 Inv-loop μ-loop
-returns-2 c = record { turn = c .before .before .before .loop .inv .0; tallied = c .before .before .before .loop .inv .2 }
+returns-2 c = rw (c .with-rows2 .ensures) (rowing-left (now (c .before .before .before .before .before .before .before .before .before .before .before .before .before .before .before .args .s)) (c .before .before .before .before .before .before .before .before .before .before .before .before .before .before .before .args .spot .x) (now (c .before .before .before .before .before .before .before .before .before .before .before .before .before .before .before .args .at)) (now (c .before .before .before .before .before .before .before .before .before .before .before .before .before .before .before .args .t)) (c .before .before .before .before .before .before .before .before .before .before .before .before .before .before .before .args .spot .t) (c .before .before .before .before .before .before .before .before .before .before .before .before .before .before .before .args .spot .x .rows) (c .before .before .before .before .before .before .before .before .before .before .before .before .before .before .before .args .spot .p) (now (c .before .before .before .before .before .before .before .before .before .before .before .before .before .before .before .args .q)) (c .before .before .before .before .before .before .before .before .loop .n) (c .before .before .before .before .before .before .before .before .loop .last) (c .before .before .before .before .before .before .before .before .loop .p) (c .before .before .before .before .before .before .before .before .loop .q) (c .before .before .before .before .before .before .before .before .loop .inv) _ (c .before .before .before .before .take-row .ensures .left (not-true _ (c .before .if2 .taken))) (c .before .before .before .before .before .before .before .before .before .before .before .before .before .before .before .args .spot) (rows-of (now (c .before .before .before .before .before .before .before .before .before .before .before .before .before .before .before .args .s)) (c .before .before .before .before .before .before .before .before .before .before .before .before .before .before .before .args .spot .p) (c .before .before .before .before .before .before .before .before .before .before .before .before .before .before .before .args .spot .last) (c .before .before .before .before .before .before .before .before .before .before .before .before .before .before .before .args .spot .x) (now (c .before .before .before .before .before .before .before .before .before .before .before .before .before .before .before .args .at)) (c .before .before .before .before .before .before .before .before .before .before .before .before .before .before .before .pre .0 .turn .between) (let w = c .before .before .before .before .before .before .before .before .before .if1 .left in omega arith)))
 
-next-at-requires : tie.Need-next-at-requires Inv-loop μ-loop
-next-at-requires c κs = row-reach (now (c .before .before .before .before .before .before .before .before .before .args .s)) (c .before .before .before .loop .p) (c .before .before .before .loop .last) (c .before .before .before .loop .x) (now (c .before .before .before .before .before .before .before .before .before .args .at)) (c .before .before .before .loop .inv .0) (c .before .before .before .loop .inv .1) (c .before .plain-row .ensures (not-false _ (c .if2 .left)))
+add-n : tie.Need-add-n Inv-loop μ-loop
+add-n c = let f = rowing-few (now (c .before .before .before .before .before .before .before .before .before .before .before .before .before .before .args .s)) (c .before .before .before .before .before .before .before .before .before .before .before .before .before .before .args .spot .x) (now (c .before .before .before .before .before .before .before .before .before .before .before .before .before .before .args .at)) (now (c .before .before .before .before .before .before .before .before .before .before .before .before .before .before .args .t)) (c .before .before .before .before .before .before .before .before .before .before .before .before .before .before .args .spot .t) (c .before .before .before .before .before .before .before .before .before .before .before .before .before .before .args .spot .x .rows) (c .before .before .before .before .before .before .before .before .before .before .before .before .before .before .args .spot .p) (now (c .before .before .before .before .before .before .before .before .before .before .before .before .before .before .args .q)) (c .before .before .before .before .before .before .before .loop .n) (c .before .before .before .before .before .before .before .loop .last) (c .before .before .before .before .before .before .before .loop .p) (c .before .before .before .before .before .before .before .loop .q) (c .before .before .before .before .before .before .before .loop .inv) _ (rw (c .before .before .before .before .before .with-rows .ensures) at (c .before .before .before .take-row .ensures .taken (not-false _ (c .if2 .left)))) in omega arith
 
-with-row-requires : tie.Need-with-row-requires Inv-loop μ-loop
-with-row-requires c κs = row-room (now (c .before .before .before .before .before .before .before .before .before .before .args .s)) (c .before .before .before .before .loop .p) (c .before .before .before .before .loop .last) (c .before .before .before .before .loop .x) (now (c .before .before .before .before .before .before .before .before .before .before .args .at)) (c .before .before .before .before .loop .inv .0) (c .before .before .before .before .loop .inv .1) (c .before .before .plain-row .ensures (not-false _ (c .before .if2 .left)))
+add-p : tie.Need-add-p Inv-loop μ-loop
+add-p c = let f = rowing-reach (now (c .before .before .before .before .before .before .before .before .before .before .before .before .before .before .args .s)) (c .before .before .before .before .before .before .before .before .before .before .before .before .before .before .args .spot .x) (now (c .before .before .before .before .before .before .before .before .before .before .before .before .before .before .args .at)) (now (c .before .before .before .before .before .before .before .before .before .before .before .before .before .before .args .t)) (c .before .before .before .before .before .before .before .before .before .before .before .before .before .before .args .spot .t) (c .before .before .before .before .before .before .before .before .before .before .before .before .before .before .args .spot .x .rows) (c .before .before .before .before .before .before .before .before .before .before .before .before .before .before .args .spot .p) (now (c .before .before .before .before .before .before .before .before .before .before .before .before .before .before .args .q)) (c .before .before .before .before .before .before .before .loop .n) (c .before .before .before .before .before .before .before .loop .last) (c .before .before .before .before .before .before .before .loop .p) (c .before .before .before .before .before .before .before .loop .q) (c .before .before .before .before .before .before .before .loop .inv) _ (rw (c .before .before .before .before .before .with-rows .ensures) at (c .before .before .before .take-row .ensures .taken (not-false _ (c .if2 .left)))) in omega arith
 
 loop-less : tie.Need-loop-less Inv-loop μ-loop
 loop-less c = search needs
 
 loop-again : tie.Need-loop-again Inv-loop μ-loop
-loop-again c = (rw (c .with-row .ensures, c .before .next-at .ensures) (row-next (now (c .before .before .before .before .before .before .before .before .before .before .before .args .s)) (c .before .before .before .before .before .loop .p) (c .before .before .before .before .before .loop .last) (c .before .before .before .before .before .loop .x) (now (c .before .before .before .before .before .before .before .before .before .before .before .args .at)) (c .before .before .before .before .before .loop .inv .0) (c .before .before .before .before .before .loop .inv .1) (c .before .before .before .plain-row .ensures (not-false _ (c .before .before .if2 .left))) (c .before .before .before .before .loop-test .taken)), within-holds 1 3 3 (omega arith) (omega arith), rw (c .with-row .ensures) (c .before .before .before .before .before .loop .inv .2))
+loop-again c = rowing-next (now (c .before .before .before .before .before .before .before .before .before .before .before .before .before .before .args .s)) (c .before .before .before .before .before .before .before .before .before .before .before .before .before .before .args .spot .x) (now (c .before .before .before .before .before .before .before .before .before .before .before .before .before .before .args .at)) (now (c .before .before .before .before .before .before .before .before .before .before .before .before .before .before .args .t)) (c .before .before .before .before .before .before .before .before .before .before .before .before .before .before .args .spot .t) (c .before .before .before .before .before .before .before .before .before .before .before .before .before .before .args .spot .x .rows) (c .before .before .before .before .before .before .before .before .before .before .before .before .before .before .args .spot .p) (now (c .before .before .before .before .before .before .before .before .before .before .before .before .before .before .args .q)) (c .before .before .before .before .before .before .before .loop .n) (c .before .before .before .before .before .before .before .loop .last) (c .before .before .before .before .before .before .before .loop .p) (c .before .before .before .before .before .before .before .loop .q) (c .before .before .before .before .before .before .before .loop .inv) _ (rw (c .before .before .before .before .before .with-rows .ensures) at (c .before .before .before .take-row .ensures .taken (not-false _ (c .if2 .left)))) (c .before .before .before .before .before .before .loop-test .taken)
+
+with-rows-requires-3 : tie.Need-with-rows-requires-3 Inv-loop μ-loop
+with-rows-requires-3 c κs = search needs
+
+same-length-2 : tie.Need-same-length-2 Inv-loop μ-loop
+same-length-2 c = c .before .before .loop .inv .size
 
 returns-3 : tie.Need-returns-3 Inv-loop μ-loop
-returns-3 c = record { turn = c .before .loop .inv .0; tallied = c .before .loop .inv .2 }
+returns-3 c = rw (c .with-rows3 .ensures) (rowing-end (now (c .before .before .before .before .before .before .before .before .before .args .s)) (c .before .before .before .before .before .before .before .before .before .args .spot .x) (now (c .before .before .before .before .before .before .before .before .before .args .at)) (now (c .before .before .before .before .before .before .before .before .before .args .t)) (c .before .before .before .before .before .before .before .before .before .args .spot .t) (c .before .before .before .before .before .before .before .before .before .args .spot .x .rows) (c .before .before .before .before .before .before .before .before .before .args .spot .p) (now (c .before .before .before .before .before .before .before .before .before .args .q)) (c .before .before .loop .n) (c .before .before .loop .last) (c .before .before .loop .p) (c .before .before .loop .q) (c .before .before .loop .inv) (c .before .before .before .before .before .before .before .before .before .args .spot) (rows-of (now (c .before .before .before .before .before .before .before .before .before .args .s)) (c .before .before .before .before .before .before .before .before .before .args .spot .p) (c .before .before .before .before .before .before .before .before .before .args .spot .last) (c .before .before .before .before .before .before .before .before .before .args .spot .x) (now (c .before .before .before .before .before .before .before .before .before .args .at)) (c .before .before .before .before .before .before .before .before .before .pre .0 .turn .between) (let w = c .before .before .before .if1 .left in omega arith)))
 
 pub rows-spec : {M : Type 1} → statement M
 rows-spec =
@@ -61,10 +74,15 @@ rows-spec =
     returns
     loop-holds
     cast-loop
-    plain-row-requires
+    with-rows-requires
+    take-row-requires
+    with-rows-requires-2
+    same-length
     returns-2
-    next-at-requires
-    with-row-requires
+    add-n
+    add-p
     loop-less
     loop-again
+    with-rows-requires-3
+    same-length-2
     returns-3)

@@ -1,0 +1,128 @@
+-- The laws of specs/steps/Glide.antt. Assumes nothing.
+--     barred-none barred-more     the events that entries stop, entry by entry
+--     Unseen, unseen-start, unseen-slot, unseen-less, unseen-hit, unseen-next, unseen-end     a loop over the members of a set, the lowest first
+--     left-below lowest-left      the lowest event that can be placed, among those that no entry stops
+use mathlib.Core.Path.{_≡_, refl, sym, ap, ap₂, subst, _∙_}
+use mathlib.Core.Bool.{Bool, true, false, _&&_, _||_, not, cond, false≢true}
+use mathlib.Core.Logic.{_⊎_, inl, inr, ⊎-elim}
+use mathlib.Core.List.{List}
+use Prim.Native.Nat.{ℕ, _+_, _-_, _%_, _^_, _≤_, _<_, min}
+use native.Mathlib.Omega.{arith}
+use native.Mathlib.Decide.{ℕ-discrete}
+use lib.Bits.{bitAnd, bitOr}
+use lib.ListN.{getD}
+use Rattle.basis.proofs.BoolLaws.{by-bool, not-both-ways, false-of, and-parts}
+use Rattle.sets.specs.Mask.{slots, mem, Has, Within, full, remove, Lowest, Rest}
+use Rattle.sets.proofs.MaskLaws.{mem-empty, mem-or, mem-diff, mem-full, full-has, mem-lt, lt-of-members, remove-old, remove-lt}
+use Rattle.placing.proofs.UntriedLaws.{Untried, untried-lowest, untried-hit, untried-next, untried-end}
+use Rattle.orders.specs.Tables.{tabled}
+use Rattle.orders.specs.Walk.{LowestReady}
+use Rattle.orders.specs.Listed.{listedBars}
+use Rattle.orders.specs.steps.Glide.{Stops, Barred, LowestAfter}
+use Rattle.orders.proofs.ListedLaws.{listed-ready, ready-listed}
+
+module _ (between readers writers : List ℕ) (s : ℕ) where
+  pub barred-none : Barred between readers writers 0 s 0
+  barred-none = record { only = λ v h. absurd (not-both-ways h (mem-empty v)); all = λ i v l. absurd (omega (arith, l)) }
+
+  -- what an entry stops, as the code finds it
+  abbrev on : ℕ → Bool
+  on i = mem s (getD writers i 0 % slots) && not (mem s (getD readers i 0 % slots))
+
+  stops : (i v : ℕ) (t : Bool) → on i ≡ t → Has (cond t (getD between i 0) 0) v → Stops between readers writers s i v
+  stops i v true e h =
+      let p = and-parts _ _ e in
+      record { member = h; placed = p .0; waiting = false-of _ (λ z. false≢true (sym (ap not z) ∙ p .1)) }
+  stops i v false e h = absurd (not-both-ways h (mem-empty v))
+
+  stopped : (i v : ℕ) → Stops between readers writers s i v → Has (cond (on i) (getD between i 0) 0) v
+  stopped i v h = ap (λ (t : Bool). mem (cond t (getD between i 0) 0) v) (ap₂ (λ (x y : Bool). x && not y) (h .placed) (h .waiting)) ∙ h .member
+
+  pub barred-more : {n c : ℕ} → Barred between readers writers n s c → Barred between readers writers (n + 1) s (bitOr c (cond (on n) (getD between n 0) 0))
+  barred-more {n} {c} b =
+      record {
+        only = λ v h. ⊎-elim (λ g. let x = b .only v g in (x .0, omega (arith, x .1), x .2)) (λ g. (n, omega arith, stops n v (on n) refl g)) (either v (sym (mem-or c _ v) ∙ h));
+        all = λ i v l h. mem-or c _ v ∙ go i v h l (ℕ-discrete i n);
+      }
+    where
+      either : (v : ℕ) → (mem c v || mem (cond (on n) (getD between n 0) 0) v) ≡ true → Has c v ⊎ Has (cond (on n) (getD between n 0) 0) v
+      either v h = by-bool (mem c v) inl (λ f. inr (ap (λ (x : Bool). x || mem (cond (on n) (getD between n 0) 0) v) (sym f) ∙ h))
+
+      go : (i v : ℕ) → Stops between readers writers s i v → i < n + 1 → Dec (i ≡ n) → (mem c v || mem (cond (on n) (getD between n 0) 0) v) ≡ true
+      go i v h l (no f) = ap (λ (x : Bool). x || mem (cond (on n) (getD between n 0) 0) v) (b .all i v (omega (arith, l, f)) h)
+      go i v h l (yes e) =
+          let x = stopped n v (subst (λ (j : ℕ). Stops between readers writers s j v) e h) in
+          by-bool (mem c v) (λ z. ap (λ (y : Bool). y || mem (cond (on n) (getD between n 0) 0) v) z) (λ z. ap (λ (y : Bool). y || mem (cond (on n) (getD between n 0) 0) v) z ∙ x)
+
+-- ---- the lowest of a set
+
+-- the members of `left` of which nothing is known yet
+pub record Unseen (m : ℕ) (before : List ℕ) (s left rest : ℕ) : Type 0 where
+  pub untried : Untried 0 m 0 (λ (d : ℕ). Has left d × Within (getD before d 0) s) (λ (d : ℕ). false) rest
+  pub within : Within rest left
+
+module _ (m : ℕ) (before : List ℕ) (s left : ℕ) (wide : left < 2 ^ slots) where
+  pub unseen-start : Within left (full m) → Unseen m before s left left
+  unseen-start h =
+      record {
+        untried = record { width = wide; only = λ d g. (omega arith, full-has m d (h d g), mem-empty d); tried = λ d a b k q. inr (q .0) };
+        within = λ d g. g;
+      }
+
+  module _ {rest : ℕ} (u : Unseen m before s left rest) where
+    pub unseen-end : rest ≡ 0 → LowestAfter m before s left m
+    unseen-end z =
+        record {
+          bound = omega arith;
+          member = λ h. absurd (omega (arith, h));
+          after = λ h. absurd (omega (arith, h));
+          none = λ d l h g. false≢true (untried-end (u .untried) z d (omega arith) l (mem-lt slots left d wide h) (h, g));
+        }
+
+    module _ {e : ℕ} (low : Lowest rest e) (some : rest ≡ 0 → ⊥) where
+      pub unseen-slot : e < slots
+      unseen-slot = untried-lowest (u .untried) low some .2
+
+      pub unseen-less : remove rest e < rest
+      unseen-less = remove-lt rest e (untried-lowest (u .untried) low some .0)
+
+      pub unseen-hit : Within (getD before e 0) s → LowestAfter m before s left e
+      unseen-hit h =
+          let w = untried-lowest (u .untried) low some in
+          record {
+            bound = omega (arith, w .1);
+            member = λ l. u .within e (w .0);
+            after = λ l. h;
+            none = λ d l k g. false≢true (untried-hit (u .untried) low some d (omega arith) l (mem-lt slots left d wide k) (k, g));
+          }
+
+      pub unseen-next : (Within (getD before e 0) s → ⊥) → Unseen m before s left (remove rest e)
+      unseen-next f =
+          record { untried = untried-next (u .untried) low some (λ q. absurd (f (q .1))); within = λ d h. u .within d (remove-old rest e d h) }
+
+-- ---- the lowest event that can be placed
+
+module _ (m k : ℕ) (before between readers writers : List ℕ) (n s free c : ℕ) (events : m ≤ slots) (set : s < 2 ^ m) (b : Barred between readers writers n s c)
+    (fits : c < 2 ^ slots) (rest : Rest s k (min m slots) free) where
+  abbrev left : ℕ
+  left = bitAnd free ((2 ^ slots - 1) - c)
+
+  mem-left : (d : ℕ) → mem left d ≡ (mem free d && not (mem c d))
+  mem-left d = mem-diff slots free c d (lt-of-members slots free (λ i h. let l = rest .only i h .1 in omega (arith, l))) fits
+
+  parts : (d : ℕ) → Has left d → Has free d × (mem c d ≡ false)
+  parts d h = let p = and-parts _ _ (sym (mem-left d) ∙ h) in (p .0, false-of _ (λ z. false≢true (sym (ap not z) ∙ p .1)))
+
+  pub left-below : Within left (full m)
+  left-below d h = let l = rest .only d (parts d h .0) .1 in mem-full m d (omega (arith, l))
+
+  pub lowest-left : {r : ℕ} → LowestAfter m before s left r → LowestReady (tabled m before (listedBars between readers writers n)) k s r
+  lowest-left {r} a =
+      record {
+        bound = a .bound;
+        ready = λ h. let p = parts r (a .member h) in listed-ready b m before events r h (rest .only r (p .0) .2) (a .after h) (p .1);
+        none = λ d l h q.
+            let x = ready-listed b m before events d set q in
+            let e = q .event in
+            a .none d h (mem-left d ∙ ap₂ (λ (y z : Bool). y && not z) (rest .all d l (omega (arith, e, events)) (x .0)) (x .2)) (x .1);
+      }

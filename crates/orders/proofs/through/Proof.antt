@@ -1,0 +1,63 @@
+-- `orders::through` meets its contract: pressed, walked through, and cleared. Assumes nothing.
+use Prim.Native.Nat.{_-_}
+use native.Mathlib.Omega.{arith}
+use denote.Ref.{now}
+use Rattle.orders.specs.Tables.{tabled}
+use Rattle.orders.proofs.ForcedLaws.{forced-searched}
+use Rattle.orders.proofs.AnswerLaws.{needed-slots, clean-starts, clean-none, clean-walked}
+use borrow.Author.Needs.{needs}
+use Rattle.orders.proofs.through.Statement.{statement}
+use Rattle.orders.proofs.through.Tie as tie
+
+slice-aggregate-force : tie.Need-slice-aggregate-force
+slice-aggregate-force c = search needs
+
+force-requires : tie.Need-force-requires
+force-requires c κs = search needs
+
+returns : tie.Need-returns
+returns c =
+    let a = c .before .before .before .before .before .before .args in
+    clean-none (tabled (a .m) (now (a .before)) (now (a .bars))) (a .k) (now (a .scratch)) (c .before .before .before .before .before .before .pre .0) (c .before .before .force .ensures .none (c .if1 .taken))
+
+walk-requires : tie.Need-walk-requires
+walk-requires c κs =
+    let a = c .before .before .before .before .before .before .before .before .before .args in
+    (clean-starts (tabled (a .m) (c .before .before .before .before .before .force .last .1 .1 .1 .1 .1 .0) (now (a .bars))) (a .k) (now (a .scratch)) (c .before .before .before .before .before .before .before .before .before .pre .0) (now (a .path)) (c .before .before .before .before .before .before .before .before .before .pre .1), c .before .before .before .before .before .before .before .before .before .pre .2)
+
+sub-needed : tie.Need-sub-needed
+sub-needed c = search needs
+
+needed-requires : tie.Need-needed-requires
+needed-requires c κs = search needs
+
+clear-requires : tie.Need-clear-requires
+clear-requires c κs = search needs
+
+same-length : tie.Need-same-length
+same-length c = search needs
+
+same-length-2 : tie.Need-same-length-2
+same-length-2 c = search needs
+
+returns-2 : tie.Need-returns-2
+returns-2 c =
+    let a = c .before .before .before .before .before .before .before .before .before .before .before .before .before .before .before .before .before .before .before .args in
+    let n = needed-slots (a .m - a .k) (c .before .before .before .before .needed .result) (let z = c .before .before .before .before .before .before .before .before .before .before .before .before .before .before .before .before .before .before .before .pre .0 .events in omega (arith, z)) (c .before .before .before .before .needed .ensures) in
+    forced-searched (a .m) (a .k) (now (a .before)) (now (a .bars)) (c .before .before .before .before .before .before .before .before .before .before .before .before .before .before .before .force .ensures .still)
+    (clean-walked (tabled (a .m) (c .before .before .before .before .before .before .before .before .before .before .before .before .before .before .before .force .last .1 .1 .1 .1 .1 .0) (now (a .bars))) (a .k) (now (a .scratch)) (c .before .before .before .before .before .before .before .before .before .before .before .before .before .before .before .before .before .before .before .pre .0) (c .before .before .before .before .needed .result) n (c .before .before .before .before .before .before .before .before .before .walk .ensures) (c .before .before .clear .ensures))
+
+pub through-spec : {M : Type 1} → statement M
+through-spec =
+    tie.close
+    (tie.spec
+    slice-aggregate-force
+    force-requires
+    returns
+    walk-requires
+    sub-needed
+    needed-requires
+    clear-requires
+    same-length
+    same-length-2
+    returns-2)

@@ -13,10 +13,11 @@ ghost use lib.ListN.{length, getD, replicate};
 ghost use Rattle.sets.specs.Mask.{slots};
 ghost use Rattle.sets.specs.Tells.{Tells};
 ghost use Rattle.cells.specs.Cells.{placing};
+ghost use Rattle.format.specs.Shape.{sc};
 ghost use Rattle.tables.specs.Tables.{accesses};
+ghost use Rattle.tables.specs.Seconds.{NoSecond};
 ghost use Rattle.alike.specs.Ranges.{writersIn, match, sideIn, equalsOn};
 ghost use Rattle.alike.specs.steps.Keys.{Keyed, KeysIn};
-ghost use Rattle.alike.specs.steps.Single.{Single};
 
 // A number for the range of an sc access: equal ranges have equal numbers, others have not. 0 for an access that is not sc.
 fn key(a: Shape) -> u32
@@ -75,7 +76,7 @@ fn side(t: &[u8; COLUMNS], keys: &[u32; ACCESSES], n: usize, b: usize, eq: &mut 
 
 // Is no second access sc? All slots are looked at, without a jump, so that the machine takes several at once.
 fn single(t: &[u8; COLUMNS]) -> bool
-    ensures { λ r. ⌜ Tells r (Single (now (t .entry)) accesses) ⌝ }
+    ensures { λ r. ⌜ Tells r (NoSecond sc (now (t .entry)) accesses) ⌝ }
 {
     let mut c = false;
     for k in 0..ACCESSES {

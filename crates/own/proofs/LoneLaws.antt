@@ -1,58 +1,49 @@
 -- The laws of specs/Lone.antt. Assumes nothing.
---     Gathered, gathered-none, gathered-more     a loop that gathers the widths of second accesses
+--     there, lone-seconds         no second access is there
 --     lone-at                     the access at a byte is the first, or none
 --     lone-meets, lone-picked     two events meet by their first accesses; those that an event meets
 use mathlib.Core.Path.{_≡_, refl, sym, ap, _∙_}
 use mathlib.Core.Bool.{Bool, true, false, cond, not}
 use mathlib.Core.List.{List}
-use Prim.Native.Nat.{ℕ, _+_, _*_, _<_, _≤_}
+use Prim.Native.Nat.{ℕ, _+_, _*_, _/_, _%_, _<_, _≤_}
 use native.Mathlib.Omega.{arith}
-use native.Mathlib.Decide.{ℕ-discrete}
-use borrow.Author.Tests.{ltb-true, leb-true}
-use lib.Bits.{bitOr, or-add-and, and-le-l, and-le-r}
+use borrow.Author.Tests.{ltb-true, leb-true, eq-eqb, eqb-true}
 use lib.Dec.{eqb, ltb, leb}
 use Rattle.basis.specs.Test.{_and_, _or_, non}
 use Rattle.basis.proofs.BoolLaws.{by-bool, false-of, and-both, and-fails, and-assoc, and-swap, amp-and, not-non, or-none, eqb-swap}
 use Rattle.format.specs.declared.Shape.{Shape}
 use Rattle.format.specs.Shape.{noShape, covers, overlap}
 use Rattle.sets.specs.Mask.{slots, mem, remove}
+use Rattle.sets.specs.Tells.{Tells}
 use Rattle.sets.proofs.MaskLaws.{mem-remove, ext-all}
 use Rattle.cells.specs.Walk.{picked}
 use Rattle.cells.proofs.WalkLaws.{mem-picked}
-use Rattle.tables.specs.Tables.{shapeIn, atIn}
+use Rattle.tables.specs.Tables.{accesses, shapeIn, atIn}
+use Rattle.tables.specs.Seconds.{NoSecond}
 use Rattle.tables.proofs.TablesLaws.{slot-first, slot-second, at-hit, at-miss, overlap-left, overlap-right}
 use Rattle.own.specs.Own.{meetsIn, metIn}
 use Rattle.own.specs.Lone.{Lone}
 
--- ---- a loop over all events
+-- ---- a loop over all slots
 
--- c has the widths of the second accesses below n
-pub record Gathered (t : List ℕ) (n c : ℕ) : Type 0 where
-  pub lone : c ≡ 0 → Lone t n
-  pub none : Lone t n → c ≡ 0
+-- an access that is there
+abbrev pub there : Shape → Bool
+there s = not (eqb (s .width) 0)
 
-pub gathered-none : (t : List ℕ) → Gathered t 0 0
-unfolding Lone
-gathered-none t = record { lone = λ h e l. absurd (omega (arith, l)); none = λ h. refl }
-
-or-empty : (a b : ℕ) → bitOr a b ≡ 0 → (a ≡ 0) × (b ≡ 0)
-or-empty a b h =
-    let s = or-add-and a b in
-    let l = and-le-l a b in
-    let r = and-le-r a b in
-    (omega (arith, h, s, l, r), omega (arith, h, s, l, r))
-
-pub gathered-more : (t : List ℕ) (n c w : ℕ) → Gathered t n c → w ≡ shapeIn t (2 * n + 1) .width → Gathered t (n + 1) (bitOr c w)
-unfolding Lone
-gathered-more t n c w g is =
+pub lone-seconds : (t : List ℕ) {r : Bool} → Tells r (NoSecond there t accesses) → Tells r (Lone t slots)
+unfolding NoSecond Lone
+lone-seconds t g =
     record {
-      lone = λ h e l. let p = or-empty c w h in go e l (p .0) (p .1) (ℕ-discrete e n);
-      none = λ h. (λ i. bitOr (g .none (λ e l. h e (omega arith)) i) ((is ∙ h n (omega arith)) i));
+      holds = λ p e l. eqb-true (shapeIn t (2 * e + 1) .width) 0 (not-none _ (g .holds p (2 * e + 1) (omega (arith, l)) (omega arith)));
+      fails = λ p h. g .fails p (λ i l o. ap not (eq-eqb (shapeIn t i .width) 0 (ap (λ (k : ℕ). shapeIn t k .width) (half i o) ∙ h (i / 2) (omega (arith, l)))));
     }
   where
-    go : (e : ℕ) → e < n + 1 → c ≡ 0 → w ≡ 0 → Dec (e ≡ n) → shapeIn t (2 * e + 1) .width ≡ 0
-    go e l p q (yes z) = ap (λ (i : ℕ). shapeIn t (2 * i + 1) .width) z ∙ sym is ∙ q
-    go e l p q (no z) = g .lone p e (omega (arith, l, z))
+    half : (i : ℕ) → i % 2 ≡ 1 → i ≡ 2 * (i / 2) + 1
+    half i o = omega (arith, o)
+
+    not-none : (b : Bool) → not b ≡ false → b ≡ true
+    not-none true e = refl
+    not-none false e = sym e
 
 -- ---- first accesses alone
 

@@ -5,6 +5,7 @@ use cells::place;
 use cells::take;
 use sets::SLOTS;
 use sets::least;
+use tables::ACCESSES;
 use tables::AGENTS;
 use tables::COLUMNS;
 ghost use mathlib.Core.Path.{_≡_};
@@ -52,16 +53,16 @@ pub fn met(t: &[u8; COLUMNS], n: usize, e: usize) -> u32
     s
 }
 
-// Has no event a second access? All slots are looked at, without a jump: a row may name any event.
+// Has no event a second access? All slots are looked at, without a jump, so that the machine takes several at once.
 pub fn lone(t: &[u8; COLUMNS]) -> bool
     ensures { λ r. ⌜ Tells r (Lone (now (t .entry)) slots) ⌝ }
 {
-    let mut c = 0;
-    for e in 0..SLOTS {
-        let a = tables::shape(t, 2 * e + 1);
-        c = c | a.width;
+    let mut c = false;
+    for k in 0..ACCESSES {
+        let a = tables::shape(t, k);
+        c = c | ((k % 2 == 1) & (a.width != 0));
     }
-    c == 0
+    !c
 }
 
 // The mask of each agent gains its events below n.

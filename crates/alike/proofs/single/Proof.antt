@@ -6,19 +6,19 @@ use native.Mathlib.Omega.{arith}
 use denote.Ref.{now}
 use Rattle.format.specs.Shape.{sc}
 use Rattle.tables.specs.Tables.{accesses, shapeIn}
-use Rattle.alike.proofs.SingleLaws.{Looked, looked-none, looked-more, looked-all}
+use Rattle.tables.proofs.SecondsLaws.{Looked, looked-none, looked-more, looked-all}
 use borrow.Author.Needs.{needs}
 use Rattle.alike.proofs.single.Statement.{statement}
 use Rattle.alike.proofs.single.Tie as tie
 
 abbrev Inv-loop : tie.InvT-loop
-Inv-loop t c₀ k₀ c k = (k ≤ accesses) × Looked t k c
+Inv-loop t c₀ k₀ c k = (k ≤ accesses) × Looked sc t k c
 
 abbrev μ-loop : tie.MeasureT-loop
 μ-loop t c₀ k₀ c k = accesses - k
 
 loop-holds : tie.Need-loop-holds Inv-loop μ-loop
-loop-holds c = (omega arith, looked-none (now (c .args .t)))
+loop-holds c = (omega arith, looked-none sc (now (c .args .t)))
 
 shape-requires : tie.Need-shape-requires Inv-loop μ-loop
 shape-requires c κs = search needs
@@ -37,13 +37,13 @@ loop-again c =
     let l = c .before .before .before .loop in
     let t = now (c .before .before .before .before .args .t) in
     let is = c .sc .ensures ∙ ap sc (c .before .shape .ensures ∙ ap (shapeIn t) (mod-eq-of-lt (omega arith))) in
-    (omega arith, looked-more t (l .k) (l .c) (c .sc .result) (omega arith) is (l .inv .1))
+    (omega arith, looked-more sc t (l .k) (l .c) (c .sc .result) (omega arith) is (l .inv .1))
 
 returns : tie.Need-returns Inv-loop μ-loop
 returns c =
     let l = c .before .loop in
     let k : l .k ≡ accesses = omega arith in
-    looked-all (now (c .before .before .args .t)) (l .c) (subst (λ (i : ℕ). Looked (now (c .before .before .args .t)) i (l .c)) k (l .inv .1))
+    looked-all sc (now (c .before .before .args .t)) (l .c) (subst (λ (i : ℕ). Looked sc (now (c .before .before .args .t)) i (l .c)) k (l .inv .1))
 
 pub single-spec : {M : Type 1} → statement M
 single-spec =

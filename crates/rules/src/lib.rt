@@ -189,7 +189,13 @@ fn may_write(far: u32, bytes: &[u32; BYTES], a: u8) -> u32
 }
 
 // What may be amiss with a row: 23, its reader happens before its writer; 24, what lies between the two and may write its byte.
-pub fn stirred(r: Row, succ: &[u32; SLOTS], pred: &[u32; SLOTS], far: u32, bytes: &[u32; BYTES]) -> u32
+pub fn stirred(
+    r: Row,
+    succ: &[u32; SLOTS],
+    pred: &[u32; SLOTS],
+    far: u32,
+    bytes: &[u32; BYTES],
+) -> u32
     ensures { λ x. ⌜ x ≡ stirredIn (now (succ .entry)) (now (pred .entry)) far (now (bytes .entry)) r ⌝ }
 {
     let e = r.reader as usize % SLOTS;

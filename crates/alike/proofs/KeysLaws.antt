@@ -1,7 +1,7 @@
 -- The laws of specs/steps/Keys.antt. Assumes nothing.
 --     key-sc, key-not                        the key of an sc access, of another one
 --     keys-none, keys-more, keys-length      the keys, slot by slot
---     key-same                               two keys are equal where the ranges are
+--     key-equal, key-same                    two keys are equal where the ranges are
 --     gained                                 what is gained by keys is what is gained by ranges
 use mathlib.Core.Path.{_≡_, refl, sym, ap, ap₂, _∙_, subst}
 use mathlib.Core.Bool.{Bool, true, false, cond}
@@ -61,7 +61,7 @@ module _ {t : List ℕ} {k : ℕ} {l₀ l : List ℕ} (g : KeysIn t k l₀ l) wh
 -- ---- two keys
 
 -- the key of an sc access is that of another access where this is sc too, with the same range
-key-equal : (a b : Shape) → a .width < 256 → b .width < 256 → sc a ≡ true → eqb (keyOf b) (keyOf a) ≡ (sc b and equal a b)
+pub key-equal : (a b : Shape) → a .width < 256 → b .width < 256 → sc a ≡ true → eqb (keyOf b) (keyOf a) ≡ (sc b and equal a b)
 unfolding equal
 key-equal a b x y h = by-bool (sc b) yes-sc no-sc
   where

@@ -1,6 +1,7 @@
 -- The laws of specs/Ranges.antt. Assumes nothing.
 --     writers-mem, writers-one     a member of writersIn
 --     matched-length        no mask more
+--     gains-mem             a mask that gains an event by a test
 --     equals-mem            the sets of equal ranges, event by event
 use mathlib.Core.Path.{_≡_, refl, sym, ap, _∙_}
 use mathlib.Core.Bool.{Bool, true, false, cond}
@@ -35,7 +36,7 @@ module _ (t : List ℕ) (n b v : ℕ) where
   matched-length l = placing-length _ l (spanOf n l)
 
 -- a mask that gains v by a test
-gains-mem : (c : Bool) (m v d : ℕ) → mem (cond c (insert m v) m) d ≡ (mem m d or (c and eqb d v))
+pub gains-mem : (c : Bool) (m v d : ℕ) → mem (cond c (insert m v) m) d ≡ (mem m d or (c and eqb d v))
 unfolding _and_ _or_
 gains-mem true m v d = mem-insert m v d ∙ bar-or (mem m d) (eqb d v)
 gains-mem false m v d = sym (or-none (mem m d))

@@ -20,7 +20,7 @@ ghost use Rattle.alike.specs.Ranges.{writersIn, match, sideIn, equalsOn}
 ghost use Rattle.alike.specs.steps.Keys.{Keyed, KeysIn};
 
 // A number for the range of an sc access: equal ranges have equal numbers, others have not. 0 for an access that is not sc.
-fn key(a: Shape) -> u32
+pub fn key(a: Shape) -> u32
     ensures { λ r. ⌜ Keyed a r ⌝ }
 {
     let x = a.start as u32 * 256 + a.width as u32 + 1;

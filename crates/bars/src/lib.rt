@@ -26,7 +26,7 @@ ghost use Rattle.bars.specs.Bars.{reasonsIn, maskIn, barsIn, filledIn};
 pub const LIST: usize = 32;
 
 // (a), (b) and (c) together, of the reader's access a and the writer's b.
-fn reasons(a: Shape, b: Shape, as_a: u32, as_b: u32, wr: bool, before: u32, after: u32) -> u32
+pub fn reasons(a: Shape, b: Shape, as_a: u32, as_b: u32, wr: bool, before: u32, after: u32) -> u32
     ensures { λ r. ⌜ r ≡ reasonsIn a b as_a as_b wr before after ⌝ }
 {
     let x = sets::only(ranges::both_sc(b, a), as_a);
@@ -63,7 +63,7 @@ pub fn of_row(
 }
 
 // Do the first accesses of a row's two events cover its byte?
-fn covered(t: &[u8; COLUMNS], r: Row) -> bool
+pub fn covered(t: &[u8; COLUMNS], r: Row) -> bool
     ensures { λ b. ⌜ b ≡ coveredIn (now (t .entry)) r ⌝ }
 {
     let a = tables::shape(t, 2 * (r.reader as usize % SLOTS));
@@ -117,7 +117,7 @@ fn add(
 }
 
 // The members of the set m, but for those that happen before w, where w is no init.
-fn late(k: usize, pred: &[u32; SLOTS], w: usize, m: u32) -> u32
+pub fn late(k: usize, pred: &[u32; SLOTS], w: usize, m: u32) -> u32
     ensures { λ r. ⌜ ((v : ℕ) → mem r v ≡ (mem m v and non (goneIn k (now (pred .entry)) (w % slots) v))) ⌝ }
 {
     let i = w % SLOTS;

@@ -38,7 +38,7 @@ fn one(test: bool) -> u32
 }
 
 // The set m, with e where a test passed: what `cells::take` answers, by a shift. Of a choice the compiler makes a jump where the test takes long.
-fn join(m: u32, e: usize, test: bool) -> u32
+pub fn join(m: u32, e: usize, test: bool) -> u32
     ensures { λ r. ⌜ r ≡ cond test (insert m (e % slots)) m ⌝ }
 {
     m | one(test) << (e % SLOTS)
@@ -88,7 +88,7 @@ fn torn(s: &[u32; ACCESSES], n: usize) -> usize
 }
 
 // The set without its least member, which is not empty where it has two.
-fn others(m: u32) -> u32
+pub fn others(m: u32) -> u32
     ensures { λ r. ⌜ Marks r (Twice m) ⌝ }
 {
     m & std::num::wrapping_sub_u32(m, 1)

@@ -1,0 +1,259 @@
+-- The laws of specs/Clean.antt, and what follows for the rules 22 to 25. Assumes nothing.
+--     marks-or, marks-bare, marks-below, marks-cyclic     what is noticed, joined; each part of it
+--     last-more, run-more, amiss-at     row by row
+--     marks-clean                  a flag that nothing was noticed
+--     row-covered, agree-reader, agree-writer     a row that is not amiss; its sets of equal ranges
+--     Unmixed, unmixed             the sources that 25 asks for, where no row is amiss
+--     clean-tells                  the flag of the whole
+--     clean-kept                   clean tables break no rule of 22 to 25
+use mathlib.Core.Path.{_≡_, refl, sym, ap, ap₂, _∙_, subst}
+use mathlib.Core.Bool.{Bool, true, false, cond, not, _&&_}
+use mathlib.Core.Logic.{_⊎_, inl, inr}
+use mathlib.Core.List.{List}
+use Prim.Native.Nat.{ℕ, zero, suc, _+_, _*_, _%_, _≤_, _<_}
+use native.Mathlib.Numerals.{add-one}
+use native.Mathlib.Nat.{mod-eq-of-lt}
+use native.Mathlib.Omega.{arith}
+use native.Mathlib.Decide.{ℕ-discrete, decLt}
+use borrow.Author.Tests.{eq-eqb, ne-eqb, eqb-true, eqb-false, ltb-true, lt-ltb}
+use lib.Bits.{bitAnd, bitOr, or-zero-l}
+use lib.Dec.{eqb, ltb}
+use lib.ListN.{length, getD, set, replicate, length-replicate, getD-replicate}
+use lib.Seq.{getD-set-same, getD-set-other}
+use Rattle.basis.specs.Test.{_and_}
+use Rattle.basis.proofs.BoolLaws.{by-bool, not-both-ways, false-of, amp-and, and-both, and-parts, both-hold}
+use Rattle.format.specs.declared.Row.{Row}
+use Rattle.format.specs.declared.Shape.{Shape}
+use Rattle.format.specs.Shape.{tearFree, equal, covers}
+use Rattle.answer.specs.declared.Rule.the-variants.{Kept}
+use Rattle.answer.proofs.RulesLaws.{also-later}
+use Rattle.sets.specs.Mask.{slots, mem, Has, insert}
+use Rattle.sets.specs.Tells.{Tells}
+use Rattle.sets.proofs.MaskLaws.{mem-and, mem-empty, mem-insert, insert-new, insert-cases, ext-all}
+use Rattle.cells.specs.Cells.{gaining}
+use Rattle.cells.proofs.FirstLaws.{first-past}
+use Rattle.tables.specs.Tables.{accesses, rowRoom, shapeIn, slotIn, rowIn}
+use Rattle.tables.proofs.TablesLaws.{reader-slot}
+use Rattle.own.specs.Lone.{Lone}
+use Rattle.torn.specs.Torn.{untornIn, sourceGains, sourcesIn, rule25In}
+use Rattle.torn.specs.steps.Noticed.{Marks, Among}
+use Rattle.torn.specs.steps.Doubled.{Twice, Doubled}
+use Rattle.torn.proofs.NoticedLaws.{or-nothing}
+use Rattle.torn.proofs.TornLaws.{row-gains, row-keeps, sources-none, sources-length, sources-more}
+use Rattle.torn.proofs.DoubledLaws.{not-doubled}
+use Rattle.rules.specs.Rules.{cyclicIn, rule22In}
+use Rattle.rules.specs.steps.Cover.{nearRoom, Covering}
+use Rattle.rules.specs.steps.Stirred.{Stirred}
+use Rattle.rules.proofs.RulesLaws.{rule22-no}
+use Rattle.rules.proofs.StirredLaws.{rule23-kept, rule24-kept}
+use Rattle.bars.specs.steps.Covered.{coveredIn}
+use Rattle.bars.proofs.CoveredLaws.{covered-reader, covered-writer}
+use Rattle.sift.specs.Clean.{wholeIn, runOf, lastIn, runIn, RowAmiss, AmissAt, Clean}
+use Rattle.sift.specs.Sieve.{restOf}
+use Rattle.sift.specs.steps.Firsts.{Agrees}
+
+-- ---- what is noticed
+
+pub marks-or : {A B : Type 0} (a b : ℕ) → Marks a A → Marks b B → Marks (bitOr a b) (A ⊎ B)
+marks-or {A} {B} a b m n = record { none = λ e. none (or-nothing a b e); some = λ f. some f (ℕ-discrete a 0) }
+  where
+    none : (a ≡ 0) × (b ≡ 0) → A ⊎ B → ⊥
+    none z (inl x) = m .none (z .0) x
+    none z (inr y) = n .none (z .1) y
+
+    some : (bitOr a b ≡ 0 → ⊥) → Dec (a ≡ 0) → A ⊎ B
+    some f (yes e) = inr (n .some (λ q. f (ap₂ bitOr e q ∙ or-zero-l 0)))
+    some f (no e) = inl (m .some e)
+
+-- a test as a number
+one-test : (b : Bool) → _≡_ {A = ℕ} (cond b 1 0) 0 → b ≡ false
+one-test b e = false-of b (λ y. let z : _≡_ {A = ℕ} 1 0 = sym (ap (λ (c : Bool). cond c 1 0) y) ∙ e in omega arith)
+
+marks-test : (x : ℕ) (b : Bool) → x ≡ cond b 1 0 → Marks x (b ≡ true)
+marks-test x b e =
+    record {
+      none = λ z y. not-both-ways y (one-test b (sym e ∙ z));
+      some = λ f. by-bool b (λ y. y) (λ y. absurd (f (e ∙ ap (λ (c : Bool). cond c 1 0) y)));
+    }
+
+pub marks-bare : (x : ℕ) (b c : Bool) → x ≡ cond (not b) 1 0 → b ≡ c → Marks x (c ≡ false)
+marks-bare x b c e same =
+    let m = marks-test x (not b) e in
+    record {
+      none = λ z y. m .none z (ap not (same ∙ y));
+      some = λ f. by-bool c (λ y. absurd (f (e ∙ ap (λ (d : Bool). cond (not d) 1 0) (same ∙ y)))) (λ y. y);
+    }
+
+pub marks-below : (x a b : ℕ) → x ≡ cond (ltb a b) 1 0 → Marks x (a < b)
+marks-below x a b e = let m = marks-test x (ltb a b) e in record { none = λ z h. m .none z (lt-ltb a b h); some = λ f. ltb-true a b (m .some f) }
+
+pub marks-cyclic : (succ : List ℕ) (e x y : ℕ) → x ≡ getD succ e 0 → y ≡ insert 0 e → Marks (bitAnd x y) (cyclicIn succ e ≡ true)
+unfolding cyclicIn _and_
+marks-cyclic succ e x y p q =
+    record {
+      none = λ z h. not-both-ways (mem-and x y e ∙ amp-and (mem x e) (mem y e) ∙ both-hold _ _ (ap (λ (m : ℕ). mem m e) p ∙ h) (ap (λ (m : ℕ). mem m e) q ∙ insert-new 0 e)) (ap (λ (m : ℕ). mem m e) z ∙ mem-empty e);
+      some = λ f. by-bool (mem (getD succ e 0) e) (λ h. h) (λ h. absurd (f (ext-all (bitAnd x y) 0 (λ d. empty h d ∙ sym (mem-empty d)))));
+    }
+  where
+    empty : mem (getD succ e 0) e ≡ false → (d : ℕ) → mem (bitAnd x y) d ≡ false
+    empty h d = mem-and x y d ∙ amp-and (mem x d) (mem y d) ∙ go (ℕ-discrete d e)
+      where
+        go : Dec (d ≡ e) → (mem x d and mem y d) ≡ false
+        go (yes z) = ap (λ (b : Bool). b and mem y d) (ap₂ mem p z ∙ h)
+        go (no z) = false-of _ (λ w. absurd (by-no (mem x d) w))
+          where
+            by-no : (b : Bool) → (b and mem y d) ≡ true → ⊥
+            by-no true w = out (insert-cases 0 e d (sym (ap (λ (m : ℕ). mem m d) q) ∙ w))
+              where
+                out : (d ≡ e) ⊎ Has 0 d → ⊥
+                out (inl c) = z c
+                out (inr c) = not-both-ways c (mem-empty d)
+            by-no false w = not-both-ways w refl
+
+-- ---- row by row
+
+module _ (t q : List ℕ) (j : ℕ) (r : Row) (is : r ≡ rowIn q j) where
+  pub last-more : r .reader ≡ lastIn q (j + 1)
+  unfolding lastIn
+  last-more = ap (λ (x : Row). x .reader) is ∙ ap (lastIn q) (sym (add-one j))
+
+  pub run-more : (last m x : ℕ) → last ≡ lastIn q j → m ≡ runIn t q j → x ≡ runOf t r last m → x ≡ runIn t q (suc j)
+  unfolding runIn
+  run-more last m x a b e = e ∙ ap (λ (y : Row). runOf t y last m) is ∙ ap₂ (runOf t (rowIn q j)) a b
+
+module _ (t succ pred : List ℕ) (far : ℕ) (l q : List ℕ) (j : ℕ) (r : Row) (is : r ≡ rowIn q j) where
+  pub amiss-at : (y last m : ℕ) → last ≡ lastIn q j → m ≡ runIn t q (suc j) → Marks y (RowAmiss t succ pred far l r last m) → Marks y (AmissAt t succ pred far l q j)
+  amiss-at y last m a b g =
+      subst (λ (x : Row). Marks y (RowAmiss t succ pred far l x (lastIn q j) (runIn t q (suc j)))) is
+      (subst (λ (x : ℕ). Marks y (RowAmiss t succ pred far l r x (runIn t q (suc j)))) a (subst (λ (x : ℕ). Marks y (RowAmiss t succ pred far l r last x)) b g))
+
+pub marks-clean : {A : Type 0} (c : ℕ) → Marks c A → Tells (eqb c 0) (A → ⊥)
+marks-clean c m = record { holds = λ h. m .none (eqb-true c 0 h); fails = λ h f. f (m .some (eqb-false c 0 h)) }
+
+-- a row that is not amiss
+pub row-covered : (t succ pred : List ℕ) (far : ℕ) (l : List ℕ) (r : Row) (last m : ℕ) → (RowAmiss t succ pred far l r last m → ⊥) → coveredIn t r ≡ true
+row-covered t succ pred far l r last m h = by-bool (coveredIn t r) (λ y. y) (λ y. absurd (h (inr (inl y))))
+
+module _ (t eq eqs : List ℕ) (r : Row) (cov : coveredIn t r ≡ true) (agree : Agrees t eq eqs) where
+  pub agree-reader : getD eq (r .reader % slots) 0 ≡ getD eqs (2 * (r .reader % slots)) 0
+  unfolding coveredIn
+  agree-reader = agree (r .reader % slots) (r .address) (omega arith) (and-both (covers (shapeIn t (2 * (r .reader % slots))) (r .address)) _ cov .0)
+
+  pub agree-writer : getD eq (r .writer % slots) 0 ≡ getD eqs (2 * (r .writer % slots)) 0
+  unfolding coveredIn
+  agree-writer = agree (r .writer % slots) (r .address) (omega arith) (and-both (covers (shapeIn t (2 * (r .reader % slots))) (r .address)) _ cov .1)
+
+-- ---- 25
+
+-- by first accesses, where they cover the row's byte
+whole-is : (t : List ℕ) (r : Row) → coveredIn t r ≡ true → untornIn t r ≡ wholeIn t r
+unfolding untornIn wholeIn
+whole-is t r h =
+    ap₂ (λ (x y : ℕ). tearFree (shapeIn t x) and tearFree (shapeIn t y) and equal (shapeIn t x) (shapeIn t y)) (covered-reader t r h) (covered-writer t r h)
+
+-- the sources so far: those of the last reader are m, those of later ones none, and no access has two
+pub record Unmixed (s : List ℕ) (last m : ℕ) : Type 0 where
+  pub size : length s ≡ accesses
+  pub at : getD s (2 * last) 0 ≡ m
+  pub beyond : (k : ℕ) → 2 * last < k → k < accesses → getD s k 0 ≡ 0
+  pub single : (k : ℕ) → k < accesses → Twice (getD s k 0) → ⊥
+
+module _ (t s : List ℕ) (last m : ℕ) (u : Unmixed s last m) (r : Row) (slot : r .reader < slots) (cov : coveredIn t r ≡ true) (up : r .reader < last → ⊥) (one : Twice (runOf t r last m) → ⊥) where
+  abbrev place : ℕ
+  place = 2 * (r .reader)
+
+  abbrev had : ℕ
+  had = cond (eqb (r .reader) last) m 0
+
+  was : getD s place 0 ≡ had
+  was = go (ℕ-discrete (r .reader) last)
+    where
+      go : Dec (r .reader ≡ last) → getD s place 0 ≡ had
+      go (yes z) = ap (λ (x : ℕ). getD s (2 * x) 0) z ∙ u .at ∙ sym (ap (λ (b : Bool). cond b m 0) (eq-eqb (r .reader) last z))
+      go (no z) = u .beyond place (omega (arith, z, up)) (omega arith) ∙ sym (ap (λ (b : Bool). cond b m 0) (ne-eqb (r .reader) last z))
+
+  slot-is : slotIn t (r .reader % slots) (r .address) ≡ place
+  slot-is = covered-reader t r cov ∙ ap (λ (x : ℕ). 2 * x) (mod-eq-of-lt slot)
+
+  now-at : getD (sourceGains t r s) place 0 ≡ runOf t r last m
+  unfolding runOf gaining
+  now-at =
+      by-bool (wholeIn t r)
+      (λ h. ap (λ (l : List ℕ). getD l place 0) (row-gains t r s (whole-is t r cov ∙ h) ∙ ap (λ (i : ℕ). gaining s i (r .writer % slots)) slot-is)
+      ∙ getD-set-same s place (insert (getD s place 0) (r .writer % slots)) 0 (let z = u .size in omega arith) ∙ ap (λ (x : ℕ). insert x (r .writer % slots)) was
+      ∙ sym (ap (λ (b : Bool). cond b (insert had (r .writer % slots)) had) h))
+      (λ h. ap (λ (l : List ℕ). getD l place 0) (row-keeps t r s (whole-is t r cov ∙ h)) ∙ was ∙ sym (ap (λ (b : Bool). cond b (insert had (r .writer % slots)) had) h))
+
+  else-same : (k : ℕ) → (k ≡ place → ⊥) → getD (sourceGains t r s) k 0 ≡ getD s k 0
+  unfolding gaining
+  else-same k f =
+      by-bool (wholeIn t r)
+      (λ h. ap (λ (l : List ℕ). getD l k 0) (row-gains t r s (whole-is t r cov ∙ h) ∙ ap (λ (i : ℕ). gaining s i (r .writer % slots)) slot-is)
+      ∙ getD-set-other s place k (insert (getD s place 0) (r .writer % slots)) 0 f)
+      (λ h. ap (λ (l : List ℕ). getD l k 0) (row-keeps t r s (whole-is t r cov ∙ h)))
+
+  unmixed-next : length (sourceGains t r s) ≡ length s → Unmixed (sourceGains t r s) (r .reader) (runOf t r last m)
+  unmixed-next long =
+      record {
+        size = long ∙ u .size;
+        at = now-at;
+        beyond = λ k h l. else-same k (λ z. omega arith) ∙ u .beyond k (omega (arith, up)) l;
+        single = λ k h. go k h (ℕ-discrete k place);
+      }
+    where
+      go : (k : ℕ) → k < accesses → Dec (k ≡ place) → Twice (getD (sourceGains t r s) k 0) → ⊥
+      go k h (yes z) w = one (subst Twice (ap (λ (x : ℕ). getD (sourceGains t r s) x 0) z ∙ now-at) w)
+      go k h (no z) w = u .single k h (subst Twice (else-same k z) w)
+
+abbrev nothing : List ℕ
+nothing = replicate accesses 0
+
+module _ (t succ pred : List ℕ) (far : ℕ) (l q : List ℕ) where
+  pub unmixed : (m : ℕ) → (Among m (AmissAt t succ pred far l q) → ⊥) → Unmixed (sourcesIn t q m nothing) (lastIn q m) (runIn t q m)
+  unfolding lastIn runIn
+  unmixed zero h = first
+    where
+      empty : (k : ℕ) → k < accesses → getD (sourcesIn t q 0 nothing) k 0 ≡ 0
+      empty k g = ap (λ (s : List ℕ). getD s k 0) (sym (sources-none t q nothing)) ∙ getD-replicate accesses k 0 0 g
+
+      first : Unmixed (sourcesIn t q 0 nothing) 0 0
+      first =
+          record {
+            size = sources-length t q nothing 0 ∙ length-replicate {A = ℕ} accesses 0;
+            at = empty 0 (omega arith);
+            beyond = λ k a b. empty k b;
+            single = λ k g w. not-both-ways (w .has-first) (ap (λ (x : ℕ). mem x (w .first)) (empty k g) ∙ mem-empty (w .first));
+          }
+  unmixed (suc j) h = step (unmixed j (λ a. h (record { at = a .at; inside = let z = a .inside in omega arith; holds = a .holds })))
+    where
+      fine : AmissAt t succ pred far l q j → ⊥
+      fine a = h (record { at = j; inside = omega arith; holds = a })
+
+      more : sourceGains t (rowIn q j) (sourcesIn t q j nothing) ≡ sourcesIn t q (suc j) nothing
+      more = sources-more t q nothing j ∙ ap (λ (i : ℕ). sourcesIn t q i nothing) (add-one j)
+
+      step : Unmixed (sourcesIn t q j nothing) (lastIn q j) (runIn t q j) → Unmixed (sourcesIn t q (suc j) nothing) (rowIn q j .reader) (runOf t (rowIn q j) (lastIn q j) (runIn t q j))
+      step u =
+          subst (λ (s : List ℕ). Unmixed s (rowIn q j .reader) (runOf t (rowIn q j) (lastIn q j) (runIn t q j))) more
+          (unmixed-next t (sourcesIn t q j nothing) (lastIn q j) (runIn t q j) u (rowIn q j) (reader-slot q j) (row-covered t succ pred far l (rowIn q j) (lastIn q j) (runIn t q (suc j)) fine) (λ g. fine (inr (inr (inl g)))) (λ w. fine (inr (inr (inr w))))
+          (ap length more ∙ sources-length t q nothing (suc j) ∙ sym (sources-length t q nothing j)))
+
+  -- ---- clean tables
+
+  pub clean-tells : (m : ℕ) (a b : Bool) (x : ℕ) → Tells a (Among m (AmissAt t succ pred far l q) → ⊥) → Tells b (Lone t slots) → Marks x (Among slots (λ (e : ℕ). cyclicIn succ e ≡ true))
+      → Tells (a && (b && eqb x 0)) (Clean t succ pred far l q m)
+  clean-tells m a b x rows alone own =
+      record {
+        holds = λ h. let p = and-parts a _ h in let s = and-parts b _ (p .1) in record { uncyclic = own .none (eqb-true x 0 (s .1)); lone = alone .holds (s .0); still = rows .holds (p .0) };
+        fails = λ h c. by-bool a (λ y. by-bool b (λ w. by-bool (eqb x 0) (λ z. not-both-ways ((λ i. y i && (w i && z i))) h) (λ z. c .uncyclic (own .some (eqb-false x 0 z)))) (λ w. alone .fails w (c .lone))) (λ y. rows .fails y (c .still));
+      }
+
+  pub clean-kept : (n m : ℕ) (z : List ℕ) → n ≤ slots → m ≤ rowRoom → nearRoom ≤ length z → Covering t n n z l far → Clean t succ pred far l q m → restOf t n succ pred q m ≡ Kept
+  unfolding restOf rule25In
+  clean-kept n m z few room wide have c =
+      let kept22 = rule22-no n n (omega arith) succ (first-past (cyclicIn succ) n n (omega arith) (λ e h. false-of _ (λ y. c .uncyclic (record { at = e; inside = omega arith; holds = y })))) in
+      let never : Stirred q m succ pred far l → ⊥ = λ a. c .still (record { at = a .at; inside = a .inside; holds = inl (a .holds) }) in
+      let kept23 = rule23-kept q m succ pred far l room never in
+      let kept24 = rule24-kept q m succ pred far l room never have wide in
+      let kept25 = not-doubled (sourcesIn t q m nothing) n few (λ d. unmixed m (c .still) .single (d .at) (d .inside) (d .holds)) in
+      sym (also-later kept22 (also-later kept23 (also-later kept24 kept25)))

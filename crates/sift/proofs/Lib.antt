@@ -1,0 +1,2 @@
+pub mod FirstsLaws
+pub mod CleanLaws

@@ -1,0 +1,3 @@
+-- Contracts of private functions: no part of what the crate promises.
+pub mod Firsts
+pub mod Passed

@@ -5,7 +5,7 @@
 --     forced-set                an event that always waits for a set may be told to
 --     forced-first              W is placed before V, so R is
 --     forced-other              V is placed before R, so before W
---     press-first, press-other  these two as the code does them
+--     press-first, press-other  these two as the code does them; bar-first: the first of one bar alone
 --     forced-closed             what waits for one that waits
 --     forced-cycle              what waits for itself is never placed
 --     Part, part-start, part-lowest, part-less, part-next     a loop over the members of a set, which takes the lowest that is left
@@ -237,11 +237,15 @@ module _ (m k : ℕ) (before bars : List ℕ) where
 
     -- the same as the code does it
     module _ (w v : ℕ) (vs : v < slots) (ws : w < slots) (event : v < m) (writer : w < m) where
+      -- w is placed before v
+      comes : (b : Bool) → b ≡ mem (getD f v 0) (w % slots) → (ltb w k || b) ≡ true → (w < k) ⊎ Has (getD f v 0) w
+      comes b is h =
+          ⊎-elim (λ q. inl (ltb-true w k q)) (λ q. inr (ap (mem (getD f v 0)) (sym (mod-eq-of-lt ws)) ∙ sym is ∙ q)) (or-either (ltb w k) b (sym (bar-or (ltb w k) b) ∙ h))
+
       pub press-first : k ≤ v → (b : Bool) → b ≡ mem (getD f v 0) (w % slots) → (ltb w k || b) ≡ true
           → Forced P k before (set f v (bitOr (getD f v 0) (barAt bars v w)))
       press-first far b is h =
-          forced-first w v vs far
-          (⊎-elim (λ q. inl (ltb-true w k q)) (λ q. inr (ap (mem (getD f v 0)) (sym (mod-eq-of-lt ws)) ∙ sym is ∙ q)) (or-either (ltb w k) b (sym (bar-or (ltb w k) b) ∙ h)))
+          forced-first w v vs far (comes b is h)
           (bitOr (getD f v 0) (barAt bars v w))
           (λ a q. mem-or (getD f v 0) (barAt bars v w) a ∙ bar-or _ _ ∙ or-holds _ _ q)
           (λ a q. ⊎-elim inl (λ x. inr (event, writer, x)) (or-either (mem (getD f v 0) a) (mem (barAt bars v w) a) (sym (mem-or (getD f v 0) (barAt bars v w) a ∙ bar-or _ _) ∙ q)))
@@ -256,6 +260,14 @@ module _ (m k : ℕ) (before bars : List ℕ) where
           go : Dec (w < k) → k ≤ w
           go (yes q) = absurd (not-both-ways (bar-or (ltb w k) b ∙ or-holds _ _ (lt-ltb w k q)) h)
           go (no q) = omega (arith, q)
+
+      -- one bar alone
+      pub bar-first : k ≤ v → (b : Bool) → b ≡ mem (getD f v 0) (w % slots) → (ltb w k || b) ≡ true → (r : ℕ) → r < slots → Has (barAt bars v w) r
+          → Forced P k before (set f v (insert (getD f v 0) (r % slots)))
+      bar-first far b is h r rs bar =
+          subst (λ (x : ℕ). Forced P k before (set f v (insert (getD f v 0) x))) (sym (mod-eq-of-lt rs))
+          (forced-first w v vs far (comes b is h) (insert (getD f v 0) r) (λ a q. insert-old (getD f v 0) r a q)
+          (λ a q. ⊎-elim (λ e. inr (event, writer, subst (Has (barAt bars v w)) (sym e) bar)) inl (insert-cases (getD f v 0) r a q)))
 
     pub forced-closed : {f′ : List ℕ} → k ≤ m → Closed m f f′ → Forced P k before f′
     forced-closed {f′} few c =

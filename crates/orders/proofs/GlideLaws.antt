@@ -1,7 +1,8 @@
 -- The laws of specs/steps/Glide.antt. Assumes nothing.
 --     barred-none barred-more     the events that entries stop, entry by entry
---     Unseen, unseen-start, unseen-slot, unseen-less, unseen-hit, unseen-next, unseen-end     a loop over the members of a set, the lowest first
---     left-below lowest-left      the lowest event that can be placed, among those that no entry stops
+--     Unseen, unseen-start, unseen-slot, unseen-less, unseen-next     a loop over the members of a set, the lowest first
+--     unseen-hit unseen-end, marked-hit marked-end      what it ends with: by `before` alone, and with the sets that are marked
+--     left-below lowest-left next-left      the lowest event that can be placed, among those that no entry stops
 use mathlib.Core.Path.{_≡_, refl, sym, ap, ap₂, subst, _∙_}
 use mathlib.Core.Bool.{Bool, true, false, _&&_, _||_, not, cond, false≢true}
 use mathlib.Core.Logic.{_⊎_, inl, inr, ⊎-elim}
@@ -14,11 +15,13 @@ use lib.ListN.{getD}
 use Rattle.basis.proofs.BoolLaws.{by-bool, not-both-ways, false-of, and-parts}
 use Rattle.sets.specs.Mask.{slots, mem, Has, Within, full, remove, Lowest, Rest}
 use Rattle.sets.proofs.MaskLaws.{mem-empty, mem-or, mem-diff, mem-full, full-has, mem-lt, lt-of-members, remove-old, remove-lt}
+use Rattle.placing.specs.Placing.{isSeen}
 use Rattle.placing.proofs.UntriedLaws.{Untried, untried-lowest, untried-hit, untried-next, untried-end}
 use Rattle.orders.specs.Tables.{tabled}
-use Rattle.orders.specs.Walk.{LowestReady}
+use Rattle.orders.specs.Step.{Ready}
+use Rattle.orders.specs.Walk.{LowestReady, NextReady}
 use Rattle.orders.specs.Listed.{listedBars}
-use Rattle.orders.specs.steps.Glide.{Stops, Barred, LowestAfter}
+use Rattle.orders.specs.steps.Glide.{Stops, Barred, LowestAfter, NextAfter}
 use Rattle.orders.proofs.ListedLaws.{listed-ready, ready-listed}
 
 module _ (between readers writers : List ℕ) (s : ℕ) where
@@ -56,28 +59,22 @@ module _ (between readers writers : List ℕ) (s : ℕ) where
 
 -- ---- the lowest of a set
 
--- the members of `left` of which nothing is known yet
-pub record Unseen (m : ℕ) (before : List ℕ) (s left rest : ℕ) : Type 0 where
-  pub untried : Untried 0 m 0 (λ (d : ℕ). Has left d × Within (getD before d 0) s) (λ (d : ℕ). false) rest
+-- the members of `left` of which nothing is known yet; the others are seen, or wait for something
+pub record Unseen (m : ℕ) (before : List ℕ) (s left : ℕ) (seen : ℕ → Bool) (rest : ℕ) : Type 0 where
+  pub untried : Untried 0 m 0 (λ (d : ℕ). Has left d × Within (getD before d 0) s) seen rest
   pub within : Within rest left
 
 module _ (m : ℕ) (before : List ℕ) (s left : ℕ) (wide : left < 2 ^ slots) where
-  pub unseen-start : Within left (full m) → Unseen m before s left left
+  pub unseen-start : {seen : ℕ → Bool} → Within left (full m) → Unseen m before s left seen left
   unseen-start h =
       record {
         untried = record { width = wide; only = λ d g. (omega arith, full-has m d (h d g), mem-empty d); tried = λ d a b k q. inr (q .0) };
         within = λ d g. g;
       }
 
-  module _ {rest : ℕ} (u : Unseen m before s left rest) where
-    pub unseen-end : rest ≡ 0 → LowestAfter m before s left m
-    unseen-end z =
-        record {
-          bound = omega arith;
-          member = λ h. absurd (omega (arith, h));
-          after = λ h. absurd (omega (arith, h));
-          none = λ d l h g. false≢true (untried-end (u .untried) z d (omega arith) l (mem-lt slots left d wide h) (h, g));
-        }
+  module _ {seen : ℕ → Bool} {rest : ℕ} (u : Unseen m before s left seen rest) where
+    tried-end : rest ≡ 0 → (d : ℕ) → d < m → Has left d → Within (getD before d 0) s → seen d ≡ true
+    tried-end z d l h g = untried-end (u .untried) z d (omega arith) l (mem-lt slots left d wide h) (h, g)
 
     module _ {e : ℕ} (low : Lowest rest e) (some : rest ≡ 0 → ⊥) where
       pub unseen-slot : e < slots
@@ -86,19 +83,56 @@ module _ (m : ℕ) (before : List ℕ) (s left : ℕ) (wide : left < 2 ^ slots) 
       pub unseen-less : remove rest e < rest
       unseen-less = remove-lt rest e (untried-lowest (u .untried) low some .0)
 
-      pub unseen-hit : Within (getD before e 0) s → LowestAfter m before s left e
-      unseen-hit h =
-          let w = untried-lowest (u .untried) low some in
-          record {
-            bound = omega (arith, w .1);
-            member = λ l. u .within e (w .0);
-            after = λ l. h;
-            none = λ d l k g. false≢true (untried-hit (u .untried) low some d (omega arith) l (mem-lt slots left d wide k) (k, g));
-          }
+      pub unseen-event : e < m
+      unseen-event = untried-lowest (u .untried) low some .1
 
-      pub unseen-next : (Within (getD before e 0) s → ⊥) → Unseen m before s left (remove rest e)
+      pub unseen-member : Has left e
+      unseen-member = u .within e (untried-lowest (u .untried) low some .0)
+
+      pub tried-hit : (d : ℕ) → d < e → Has left d → Within (getD before d 0) s → seen d ≡ true
+      tried-hit d l k g = untried-hit (u .untried) low some d (omega arith) l (mem-lt slots left d wide k) (k, g)
+
+      pub unseen-next : (Within (getD before e 0) s → seen e ≡ true) → Unseen m before s left seen (remove rest e)
       unseen-next f =
-          record { untried = untried-next (u .untried) low some (λ q. absurd (f (q .1))); within = λ d h. u .within d (remove-old rest e d h) }
+          record { untried = untried-next (u .untried) low some (λ q. f (q .1)); within = λ d h. u .within d (remove-old rest e d h) }
+
+  -- where no set is looked up
+  module _ {rest : ℕ} (u : Unseen m before s left (λ d. false) rest) where
+    pub unseen-end : rest ≡ 0 → LowestAfter m before s left m
+    unseen-end z =
+        record {
+          bound = omega arith;
+          member = λ h. absurd (omega (arith, h));
+          after = λ h. absurd (omega (arith, h));
+          none = λ d l h g. false≢true (tried-end u z d l h g);
+        }
+
+    pub unseen-hit : {e : ℕ} → Lowest rest e → (rest ≡ 0 → ⊥) → Within (getD before e 0) s → LowestAfter m before s left e
+    unseen-hit low some h =
+        let w = unseen-event u low some in
+        record {
+          bound = omega (arith, w);
+          member = λ l. unseen-member u low some;
+          after = λ l. h;
+          none = λ d l k g. false≢true (tried-hit u low some d l k g);
+        }
+
+  -- and where it is
+  module _ (k : ℕ) (table : List ℕ) {rest : ℕ} (u : Unseen m before s left (isSeen k table s) rest) where
+    pub marked-end : rest ≡ 0 → NextAfter k m before table s left m
+    marked-end z =
+        record {
+          bound = omega arith;
+          member = λ h. absurd (omega (arith, h));
+          after = λ h. absurd (omega (arith, h));
+          unseen = λ h. absurd (omega (arith, h));
+          tried = tried-end u z;
+        }
+
+    pub marked-hit : {e : ℕ} → Lowest rest e → (rest ≡ 0 → ⊥) → Within (getD before e 0) s → isSeen k table s e ≡ false → NextAfter k m before table s left e
+    marked-hit low some h f =
+        let w = unseen-event u low some in
+        record { bound = omega (arith, w); member = λ l. unseen-member u low some; after = λ l. h; unseen = λ l. f; tried = tried-hit u low some }
 
 -- ---- the lowest event that can be placed
 
@@ -116,13 +150,27 @@ module _ (m k : ℕ) (before between readers writers : List ℕ) (n s free c : �
   pub left-below : Within left (full m)
   left-below d h = let l = rest .only d (parts d h .0) .1 in mem-full m d (omega (arith, l))
 
+  -- an event that can be placed is one of those that no entry stops
+  stays : (d : ℕ) → k ≤ d → Ready (tabled m before (listedBars between readers writers n)) (Has s) d → Has left d × Within (getD before d 0) s
+  stays d l q =
+      let x = ready-listed b m before events d set q in
+      let e = q .event in
+      (mem-left d ∙ ap₂ (λ (y z : Bool). y && not z) (rest .all d l (omega (arith, e, events)) (x .0)) (x .2), x .1)
+
   pub lowest-left : {r : ℕ} → LowestAfter m before s left r → LowestReady (tabled m before (listedBars between readers writers n)) k s r
   lowest-left {r} a =
       record {
         bound = a .bound;
         ready = λ h. let p = parts r (a .member h) in listed-ready b m before events r h (rest .only r (p .0) .2) (a .after h) (p .1);
-        none = λ d l h q.
-            let x = ready-listed b m before events d set q in
-            let e = q .event in
-            a .none d h (mem-left d ∙ ap₂ (λ (y z : Bool). y && not z) (rest .all d l (omega (arith, e, events)) (x .0)) (x .2)) (x .1);
+        none = λ d l h q. let x = stays d l q in a .none d h (x .0) (x .1);
+      }
+
+  pub next-left : {x : ℕ} {table : List ℕ} {r : ℕ} → NextAfter x m before table s left r → NextReady (tabled m before (listedBars between readers writers n)) x table s k r
+  next-left {r = r} a =
+      record {
+        bound = a .bound;
+        place = λ h. rest .only r (parts r (a .member h) .0) .0;
+        ready = λ h. let p = parts r (a .member h) in listed-ready b m before events r h (rest .only r (p .0) .2) (a .after h) (p .1);
+        unseen = a .unseen;
+        tried = λ d l h q. let x = stays d l q in a .tried d h (x .0) (x .1);
       }

@@ -16,3 +16,4 @@ pub mod ForcedLaws
 pub mod SameLaws
 pub mod ListedLaws
 pub mod GlideLaws
+pub mod PressLaws

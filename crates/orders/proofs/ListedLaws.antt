@@ -1,5 +1,5 @@
 -- The laws of specs/Listed.antt. Assumes nothing.
---     listed-none listed-more listed-length     the table, entry by entry
+--     listed-length                             how long the table is
 --     listed-elim listed-intro                  it has exactly the bars that an entry has
 --     ready-listed listed-ready                 what can be placed by the table, as the entries tell it
 use mathlib.Core.Path.{_≡_, refl, sym, ap, subst, _∙_}
@@ -15,7 +15,6 @@ use Rattle.sets.specs.Mask.{slots, mem, Has, Within}
 use Rattle.sets.proofs.MaskLaws.{mem-empty, mem-lt}
 use Rattle.gather.specs.Writers.{barAt}
 use Rattle.cells.specs.Walk.{upTo}
-use Rattle.cells.proofs.WalkLaws.{upTo-more}
 use Rattle.cells.proofs.CellsLaws.{spread-length, spread-elim, spread-old, spread-new}
 use Rattle.orders.specs.Step.{Ready}
 use Rattle.orders.specs.Tables.{tabled}
@@ -29,14 +28,6 @@ blank (suc n) zero e = mem-empty e
 blank (suc n) (suc i) e = blank n i e
 
 module _ (between readers writers : List ℕ) where
-  pub listed-none : replicate (slots * slots) 0 ≡ listedBars between readers writers 0
-  unfolding listedBars upTo
-  listed-none = refl
-
-  pub listed-more : (n : ℕ) → addListed between readers writers n (listedBars between readers writers n) ≡ listedBars between readers writers (n + 1)
-  unfolding listedBars
-  listed-more n = sym (upTo-more (addListed between readers writers) n (replicate (slots * slots) 0))
-
   pub listed-length : (n : ℕ) → length (listedBars between readers writers n) ≡ slots * slots
   unfolding listedBars upTo
   listed-length zero = length-replicate {A = ℕ} (slots * slots) 0

@@ -4,6 +4,7 @@
 --     Gathered m bars writers      writers[v] is the set of the w below m that have a bar (r, w, v), for each v below m
 --     Tried P k table s j          of the events below j that can be placed after those of s, each leads to a marked set
 --     NextIs P k table s r         r is the lowest event that can be placed after those of s and leads to a set that is not marked
+--     NextReady P k table s from r     the same of the events from `from` on
 --     Starting P k table path      what a walk starts from: room for the events, the sets and the path, and no set marked
 --     Walked P k ..                the end of a walk: in the path, the first list of the others that can be placed, or that there is none
 --     Descended P k ..             the end of a walk without marks: where all are placed, the path has the first list too
@@ -34,6 +35,13 @@ pub record NextIs (P : Problem) (k : ℕ) (table : List ℕ) (s r : ℕ) : Type 
   pub tried : Tried P k table s r
   pub ready : r < P .events → Ready P (Has s) r
   pub unseen : r < P .events → isSeen k table s r ≡ false
+
+pub record NextReady (P : Problem) (k : ℕ) (table : List ℕ) (s from r : ℕ) : Type 0 where
+  pub bound : r ≤ P .events
+  pub place : r < P .events → from ≤ r
+  pub ready : r < P .events → Ready P (Has s) r
+  pub unseen : r < P .events → isSeen k table s r ≡ false
+  pub tried : (d : ℕ) → from ≤ d → d < r → Ready P (Has s) d → isSeen k table s d ≡ true
 
 pub record Starting (P : Problem) (k : ℕ) (table path : List ℕ) : Type 0 where
   pub inits : k ≤ P .events

@@ -1,2 +1,3 @@
 -- Contracts of private functions: no part of what the crate promises.
 pub mod Glide
+pub mod Press

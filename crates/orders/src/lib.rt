@@ -8,7 +8,7 @@ use gather::PAIRS;
 use sets::SLOTS;
 ghost use mathlib.Core.Path.{_≡_};
 ghost use mathlib.Core.List.{_++_};
-ghost use Prim.Native.Nat.{_+_, _-_, _*_, _^_, _<_, _≤_, min};
+ghost use Prim.Native.Nat.{_+_, _-_, _*_, _%_, _^_, _<_, _≤_, min};
 ghost use lib.ListN.{length, getD, take, drop, replicate};
 ghost use Rattle.basis.specs.Test.{from};
 ghost use Rattle.sets.specs.Tells.{Tells};
@@ -16,9 +16,10 @@ ghost use Rattle.sets.specs.Mask.{slots, Within, full};
 ghost use Rattle.orders.specs.Tables.{tabled};
 ghost use Rattle.orders.specs.Answer.{Fits, Told, Answered};
 ghost use Rattle.gather.specs.Writers.{Writers};
-ghost use Rattle.orders.specs.Walk.{Gathered, Starting, Walked, LowestReady, Descended, Clean, Searched};
+ghost use Rattle.orders.specs.Walk.{Gathered, Starting, Walked, LowestReady, NextReady, Descended, Clean, Searched};
 ghost use Rattle.orders.specs.Listed.{listRoom, listedBars};
-ghost use Rattle.orders.specs.steps.Glide.{Barred, LowestAfter};
+ghost use Rattle.orders.specs.steps.Glide.{Barred, LowestAfter, NextAfter};
+ghost use Rattle.orders.specs.steps.Press.{Presses, AtOne, AtEach};
 ghost use Rattle.orders.specs.Forced.{Forced, Led, Waited, Cyclic, Pressed};
 
 // ---- a walk through the sets
@@ -181,20 +182,81 @@ fn glide(
     true
 }
 
-// The bars of the first n entries, into a table of zeros.
-fn table(
+// The lowest event of `left` of which all that has to come before is placed, and which leads to a set that is not marked; m if there is none.
+fn next_of(k: usize, m: usize, before: &[u32; SLOTS], table: &[u8], s: u32, left: u32) -> usize
+    requires { ⌜ Within left (full m) ⌝ }
+    ensures { λ r. ⌜ NextAfter (k % slots) m (now (before .entry)) (now (table .entry)) s left r ⌝ }
+{
+    let mut rest = left;
+    while rest != 0 {
+        let e = sets::lowest(rest);
+        if sets::subset(before[e], s) {
+            let x = sets::above(sets::with(s, e), k);
+            if !marks::marked(table, x as usize) {
+                return e;
+            }
+        }
+        rest = sets::without(rest, e);
+    }
+    m
+}
+
+// The lowest event from `from` on, below m, that can be placed after those of the set s and leads to a set that is not marked; m if there is none.
+fn next_listed(
+    k: usize,
+    m: usize,
+    before: &[u32; SLOTS],
     between: &[u32; LIST],
     readers: &[u8; LIST],
     writers: &[u8; LIST],
     n: usize,
-    bars: &mut [u32],
-)
-    requires { ⌜ (n ≤ listRoom) × (now bars ≡ replicate (slots * slots) 0) ⌝ }
-    ensures { λ _. ⌜ now (bars .exit) ≡ listedBars (now (between .entry)) (now (readers .entry)) (now (writers .entry)) n ⌝ }
+    table: &[u8],
+    s: u32,
+    from: usize,
+) -> usize
+    requires { ⌜ (m ≤ slots) × (n ≤ listRoom) × (s < 2 ^ m) ⌝ }
+    ensures { λ r. ⌜ NextReady (tabled m (now (before .entry)) (listedBars (now (between .entry)) (now (readers .entry)) (now (writers .entry)) n)) (k % slots) (now (table .entry)) s from r ⌝ }
 {
-    for i in 0..n {
-        cells::spread(bars, between[i], wide(writers[i]), wide(readers[i]));
+    let left = sets::rest(s, from, m) & !barred(between, readers, writers, n, s);
+    next_of(k, m, before, table, s, left)
+}
+
+// As `walk`, by a list of bars.
+fn walk_listed(
+    k: usize,
+    m: usize,
+    before: &[u32; SLOTS],
+    between: &[u32; LIST],
+    readers: &[u8; LIST],
+    writers: &[u8; LIST],
+    n: usize,
+    table: &mut [u8],
+    path: &mut [u8],
+) -> bool
+    requires { ⌜ Starting (tabled m (now before) (listedBars (now between) (now readers) (now writers) n)) k (now table) (now path) × (n ≤ listRoom) ⌝ }
+    ensures { λ r. ⌜ Walked (tabled m (now (before .entry)) (listedBars (now (between .entry)) (now (readers .entry)) (now (writers .entry)) n)) k (now (table .entry)) r (now (table .exit)) (now (path .exit)) ⌝ }
+{
+    let all = sets::full(m);
+    let mut s = sets::full(k);
+    let mut depth: usize = 0;
+    let mut from = k;
+    while s != all {
+        let e = next_listed(k, m, before, between, readers, writers, n, table, s, from);
+        if e < m {
+            s = placing::enter(k, s, e, table, path, depth);
+            depth += 1;
+            from = k;
+        } else {
+            if depth == 0 {
+                return false;
+            }
+            depth -= 1;
+            let x = path[depth] as usize;
+            s = sets::without(s, x);
+            from = x + 1;
+        }
     }
+    true
 }
 
 // ---- what bars force
@@ -368,6 +430,117 @@ fn force(
     press_on(k, m, before, bars, writers, f)
 }
 
+// ---- the same by a list of bars
+
+// The bar (reader, writer, v). Where the writer is placed before v, the reader has to be; where v has to be placed before the reader, it has to be
+// before the writer.
+fn press_bar(k: usize, m: usize, reader: usize, writer: usize, v: usize, f: &mut [u32])
+    requires { ⌜ (k ≤ v) × (v < m) × (writer < m) × (m ≤ slots) × (reader < slots) × (length (now f) ≡ slots) ⌝ }
+    ensures { λ _. ⌜ Presses k m (AtOne reader writer v) (now (f .entry)) (now (f .exit)) ⌝ }
+{
+    let after = (writer < k) | sets::has(f[v], writer);
+    if after {
+        f[v] = sets::with(f[v], reader);
+        return;
+    }
+    if writer == v {
+        return;
+    }
+    if sets::has(f[reader], v) {
+        f[writer] = sets::with(f[writer], v);
+    }
+}
+
+// The bars (reader, writer, v) of an entry, for each v of its set.
+fn press_entry(k: usize, m: usize, between: u32, reader: usize, writer: usize, f: &mut [u32])
+    requires { ⌜ (m ≤ slots) × (reader < slots) × (length (now f) ≡ slots) ⌝ }
+    ensures { λ _. ⌜ Presses k m (AtEach m reader writer between) (now (f .entry)) (now (f .exit)) ⌝ }
+{
+    if m <= writer {
+        return;
+    }
+    let mut left = sets::rest(0, k, m) & between;
+    while left != 0 {
+        let v = sets::lowest(left);
+        press_bar(k, m, reader, writer, v, f);
+        left = sets::without(left, v);
+    }
+}
+
+// All entries once, and then what waits for one that waits.
+fn press_list(
+    k: usize,
+    m: usize,
+    before: &[u32; SLOTS],
+    between: &[u32; LIST],
+    readers: &[u8; LIST],
+    writers: &[u8; LIST],
+    n: usize,
+    f: &mut [u32],
+)
+    requires { ⌜ Forced (tabled m (now before) (listedBars (now between) (now readers) (now writers) n)) k (now before) (now f) × (k ≤ m) × (m ≤ slots) × (n ≤ listRoom) ⌝ }
+    ensures { λ _. ⌜ Forced (tabled m (now (before .entry)) (listedBars (now (between .entry)) (now (readers .entry)) (now (writers .entry)) n)) k (now (before .entry)) (now (f .exit)) ⌝ }
+{
+    for i in 0..n {
+        let reader = wide(readers[i]) % SLOTS;
+        let writer = wide(writers[i]) % SLOTS;
+        press_entry(k, m, between[i], reader, writer, f);
+    }
+    closing::close(f, m);
+}
+
+// As `press_on`.
+fn press_list_on(
+    k: usize,
+    m: usize,
+    before: &[u32; SLOTS],
+    between: &[u32; LIST],
+    readers: &[u8; LIST],
+    writers: &[u8; LIST],
+    n: usize,
+    f: &mut [u32],
+) -> bool
+    requires { ⌜ Forced (tabled m (now before) (listedBars (now between) (now readers) (now writers) n)) k (now before) (now f) × (k ≤ m) × (m ≤ slots) × (n ≤ listRoom) ⌝ }
+    ensures { λ r. ⌜ Pressed (tabled m (now (before .entry)) (listedBars (now (between .entry)) (now (readers .entry)) (now (writers .entry)) n)) k (now (before .entry)) r (now (f .exit)) ⌝ }
+{
+    let mut had = weight(m, f);
+    let mut round: usize = 0;
+    while round < ROUNDS {
+        press_list(k, m, before, between, readers, writers, n, f);
+        if cyclic(k, m, f) {
+            return true;
+        }
+        let has = weight(m, f);
+        if has == had {
+            return false;
+        }
+        had = has;
+        round += 1;
+    }
+    false
+}
+
+// As `force`.
+fn force_listed(
+    k: usize,
+    m: usize,
+    before: &[u32; SLOTS],
+    between: &[u32; LIST],
+    readers: &[u8; LIST],
+    writers: &[u8; LIST],
+    n: usize,
+    f: &mut [u32],
+) -> bool
+    requires { ⌜ (k ≤ m) × (m ≤ slots) × (now f ≡ replicate slots 0) × (n ≤ listRoom) ⌝ }
+    ensures { λ r. ⌜ Pressed (tabled m (now (before .entry)) (listedBars (now (between .entry)) (now (readers .entry)) (now (writers .entry)) n)) k (now (before .entry)) r (now (f .exit)) ⌝ }
+{
+    lead(k, m, before, f);
+    if m - k <= FEW {
+        return false;
+    }
+    press_list_on(k, m, before, between, readers, writers, n, f)
+}
+
 // ---- answers
 
 // Whether a search takes these numbers of inits and events and that much scratch.
@@ -438,7 +611,7 @@ fn search(
     through(k, m, before, bars, &writers, scratch, path)
 }
 
-// As `through`, by a list of bars: only here their table is made.
+// As `through`, by a list of bars.
 fn through_listed(
     k: usize,
     m: usize,
@@ -453,11 +626,14 @@ fn through_listed(
     requires { ⌜ Clean k m (now scratch) × (slots ≤ length (now path)) × (n ≤ listRoom) ⌝ }
     ensures { λ r. ⌜ Searched (tabled m (now (before .entry)) (listedBars (now (between .entry)) (now (readers .entry)) (now (writers .entry)) n)) k (now (scratch .entry)) r (now (scratch .exit)) (now (path .exit)) ⌝ }
 {
-    let mut bars = [0u32; PAIRS];
-    table(between, readers, writers, n, &mut bars);
-    let mut sources = [0u32; SLOTS];
-    gather::gather(m, &bars, &mut sources);
-    through(k, m, before, &bars, &sources, scratch, path)
+    let mut f = [0u32; SLOTS];
+    if force_listed(k, m, before, between, readers, writers, n, &mut f) {
+        return false;
+    }
+    let found = walk_listed(k, m, &f, between, readers, writers, n, scratch, path);
+    let need = marks::needed(m - k);
+    marks::clear(scratch, need); // the marks of this walk
+    found
 }
 
 // As `search`, by a list of bars.
@@ -527,7 +703,7 @@ pub fn first(
     false
 }
 
-// The same by a list of bars, of which the first n entries count, as far as there is room for them. Where an order is soon found no table is made.
+// The same by a list of bars, of which the first n entries count, as far as there is room for them. No table is made.
 pub fn first_listed(
     inits: usize,
     events: usize,

@@ -1,14 +1,20 @@
--- The laws of specs/Placing.antt: that two conforming answers agree. Assumes nothing.
+-- The laws of specs/Placing.antt: that two conforming answers agree; and what a turn looks up. Assumes nothing.
 --     next-unique                      the next event
 --     lowest-unique                    the lowest that can be placed
 --     entered-unique                   a step on
-use Prim.Native.Nat.{ℕ, _<_}
-use mathlib.Core.Path.{_≡_, sym, _∙_}
+--     looked                           the set that is looked up, as the code has it
+use Prim.Native.Nat.{ℕ, _%_, _<_}
+use mathlib.Core.Path.{_≡_, sym, ap, _∙_}
 use mathlib.Core.List.{List}
+use native.Mathlib.Nat.{mod-eq-of-lt}
 use native.Mathlib.Omega.{arith}
 use native.Mathlib.Decide.{decLt}
 use Rattle.basis.proofs.BoolLaws.{not-both-ways}
+use Rattle.sets.specs.Mask.{slots, insert, above}
 use Rattle.placing.specs.Placing.{NextFree, LowestFree, Entered}
+
+pub looked : (s e k : ℕ) {w x : ℕ} → e < slots → w ≡ insert s (e % slots) → x ≡ above w k → x ≡ above (insert s e) k
+looked s e k h a b = b ∙ ap (λ (y : ℕ). above y k) (a ∙ ap (insert s) (mod-eq-of-lt h))
 
 module _ {k m : ℕ} {before bars writers table : List ℕ} {s from : ℕ} where
   first : {r q : ℕ} → NextFree k m before bars writers table s from r → NextFree k m before bars writers table s from q → r < q → ⊥

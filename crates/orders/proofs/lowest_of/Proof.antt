@@ -1,5 +1,6 @@
 -- `orders::lowest_of` meets its contract: each event below those that are left has been tried. `rest` gets smaller as a number. Assumes nothing.
 use mathlib.Core.Path.{sym, ap, subst, _∙_}
+use mathlib.Core.Bool.{false}
 use native.Mathlib.Nat.{mod-eq-of-lt}
 use native.Mathlib.Omega.{arith}
 use denote.Ref.{now}
@@ -10,7 +11,7 @@ use Rattle.orders.proofs.lowest_of.Statement.{statement}
 use Rattle.orders.proofs.lowest_of.Tie as tie
 
 abbrev Inv-loop : tie.InvT-loop
-Inv-loop m before s left rest₀ rest = Unseen m before s left rest
+Inv-loop m before s left rest₀ rest = Unseen m before s left (λ d. false) rest
 
 abbrev μ-loop : tie.MeasureT-loop
 μ-loop m before s left rest₀ rest = rest
@@ -59,7 +60,7 @@ loop-again c =
     let a = c .before .before .before .before .before .before .before .args in
     let l = unseen-slot (a .m) (now (a .before)) (a .s) (a .left) (c .before .before .before .before .before .before .before .fits .left .fits) (c .before .before .before .before .before .before .loop .inv) (c .before .before .before .before .lowest .ensures) (c .before .before .before .before .before .loop-test .taken) in
     let z = c .without .ensures ∙ ap (remove (c .before .before .before .before .before .before .loop .rest)) (mod-eq-of-lt l) in
-    subst (Unseen (a .m) (now (a .before)) (a .s) (a .left)) (sym z) (unseen-next (a .m) (now (a .before)) (a .s) (a .left) (c .before .before .before .before .before .before .before .fits .left .fits) (c .before .before .before .before .before .before .loop .inv) (c .before .before .before .before .lowest .ensures) (c .before .before .before .before .before .loop-test .taken) (c .before .before .subset .ensures .fails (c .before .if1 .left)))
+    subst (Unseen (a .m) (now (a .before)) (a .s) (a .left) (λ d. false)) (sym z) (unseen-next (a .m) (now (a .before)) (a .s) (a .left) (c .before .before .before .before .before .before .before .fits .left .fits) (c .before .before .before .before .before .before .loop .inv) (c .before .before .before .before .lowest .ensures) (c .before .before .before .before .before .loop-test .taken) (λ h. absurd (c .before .before .subset .ensures .fails (c .before .if1 .left) h)))
 
 returns-2 : tie.Need-returns-2 Inv-loop μ-loop
 returns-2 c =

@@ -1,28 +1,39 @@
--- `orders::through_listed` meets its contract: by `through`, with the table of the entries. Assumes nothing.
+-- `orders::through_listed` meets its contract: pressed, walked through, and cleared. Assumes nothing.
+use Prim.Native.Nat.{_-_}
 use native.Mathlib.Omega.{arith}
 use denote.Ref.{now}
-use Rattle.orders.proofs.TablesLaws.{gathered}
-use Rattle.orders.proofs.AnswerLaws.{searched-equal}
+use Rattle.orders.specs.Tables.{tabled}
+use Rattle.orders.specs.Listed.{listedBars}
+use Rattle.orders.proofs.ForcedLaws.{forced-searched}
+use Rattle.orders.proofs.AnswerLaws.{needed-slots, clean-starts, clean-none, clean-walked}
 use borrow.Author.Needs.{needs}
 use Rattle.orders.proofs.through_listed.Statement.{statement}
 use Rattle.orders.proofs.through_listed.Tie as tie
 
-slice-aggregate-table : tie.Need-slice-aggregate-table
-slice-aggregate-table c = search needs
+slice-aggregate-force-listed : tie.Need-slice-aggregate-force-listed
+slice-aggregate-force-listed c = search needs
 
-table-requires : tie.Need-table-requires
-table-requires c κs = search needs
+force-listed-requires : tie.Need-force-listed-requires
+force-listed-requires c κs = search needs
 
-slice-aggregate-gather : tie.Need-slice-aggregate-gather
-slice-aggregate-gather c = search needs
+returns : tie.Need-returns
+returns c =
+    let a = c .before .before .before .before .before .before .args in
+    clean-none (tabled (a .m) (now (a .before)) (listedBars (now (a .between)) (now (a .readers)) (now (a .writers)) (a .n))) (a .k) (now (a .scratch)) (c .before .before .before .before .before .before .pre .0) (c .before .before .force-listed .ensures .none (c .if1 .taken))
 
-gather-requires : tie.Need-gather-requires
-gather-requires c κs = search needs
+walk-listed-requires : tie.Need-walk-listed-requires
+walk-listed-requires c κs =
+    let a = c .before .before .before .before .before .before .before .before .before .args in
+    (clean-starts (tabled (a .m) (c .before .before .before .before .before .force-listed .last .1 .1 .1 .1 .1 .1 .1 .0) (listedBars (now (a .between)) (now (a .readers)) (now (a .writers)) (a .n))) (a .k) (now (a .scratch)) (c .before .before .before .before .before .before .before .before .before .pre .0) (now (a .path)) (c .before .before .before .before .before .before .before .before .before .pre .1), c .before .before .before .before .before .before .before .before .before .pre .2)
 
-through-requires : tie.Need-through-requires
-through-requires c κs =
-    let a = c .before .before .before .before .before .before .before .before .before .before .before .before .before .args in
-    (c .before .before .before .before .before .before .before .before .before .before .before .before .before .pre .0, c .before .before .before .before .before .before .before .before .before .before .before .before .before .pre .1, gathered (a .m) _ _ _ (c .before .before .before .before .before .before .before .before .before .before .before .before .before .pre .0 .events) (omega arith) (c .before .before .before .before .before .gather .ensures))
+sub-needed : tie.Need-sub-needed
+sub-needed c = search needs
+
+needed-requires : tie.Need-needed-requires
+needed-requires c κs = search needs
+
+clear-requires : tie.Need-clear-requires
+clear-requires c κs = search needs
 
 same-length : tie.Need-same-length
 same-length c = search needs
@@ -30,20 +41,24 @@ same-length c = search needs
 same-length-2 : tie.Need-same-length-2
 same-length-2 c = search needs
 
-returns : tie.Need-returns
-returns c =
-    let a = c .before .before .before .before .before .before .before .before .before .before .before .before .before .before .before .before .before .before .args in
-    searched-equal (a .m) (a .k) (now (a .before)) _ _ (now (a .scratch)) (c .before .before .before .before .before .before .before .before .before .before .before .before .before .before .table .ensures) (c .before .before .before .before .through .ensures)
+returns-2 : tie.Need-returns-2
+returns-2 c =
+    let a = c .before .before .before .before .before .before .before .before .before .before .before .before .before .before .before .before .before .before .before .args in
+    let n = needed-slots (a .m - a .k) (c .before .before .before .before .needed .result) (let z = c .before .before .before .before .before .before .before .before .before .before .before .before .before .before .before .before .before .before .before .pre .0 .events in omega (arith, z)) (c .before .before .before .before .needed .ensures) in
+    forced-searched (a .m) (a .k) (now (a .before)) (listedBars (now (a .between)) (now (a .readers)) (now (a .writers)) (a .n)) (c .before .before .before .before .before .before .before .before .before .before .before .before .before .before .before .force-listed .ensures .still)
+    (clean-walked (tabled (a .m) (c .before .before .before .before .before .before .before .before .before .before .before .before .before .before .before .force-listed .last .1 .1 .1 .1 .1 .1 .1 .0) (listedBars (now (a .between)) (now (a .readers)) (now (a .writers)) (a .n))) (a .k) (now (a .scratch)) (c .before .before .before .before .before .before .before .before .before .before .before .before .before .before .before .before .before .before .before .pre .0) (c .before .before .before .before .needed .result) n (c .before .before .before .before .before .before .before .before .before .walk-listed .ensures) (c .before .before .clear .ensures))
 
 pub through-listed-spec : {M : Type 1} → statement M
 through-listed-spec =
     tie.close
     (tie.spec
-    slice-aggregate-table
-    table-requires
-    slice-aggregate-gather
-    gather-requires
-    through-requires
+    slice-aggregate-force-listed
+    force-listed-requires
+    returns
+    walk-listed-requires
+    sub-needed
+    needed-requires
+    clear-requires
     same-length
     same-length-2
-    returns)
+    returns-2)

@@ -2,12 +2,14 @@
 --     Stops ..        entry i stops v where the events of s are placed: its writer is, and its reader is not
 --     Barred ..       c is the set of the events that one of the first n entries stops
 --     LowestAfter ..  r is the lowest event of `left` of which all that has to come before is in s, or m if there is none
+--     NextAfter k ..  the same among those that lead to a set that is not marked
 use mathlib.Core.Path.{_≡_}
-use mathlib.Core.Bool.{false}
+use mathlib.Core.Bool.{true, false}
 use mathlib.Core.List.{List}
 use Prim.Native.Nat.{ℕ, _%_, _≤_, _<_}
 use lib.ListN.{getD}
 use Rattle.sets.specs.Mask.{slots, mem, Has, Within}
+use Rattle.placing.specs.Placing.{isSeen}
 
 -- 02 §9: "it is not the V of a bar with W placed and R not"
 pub record Stops (between readers writers : List ℕ) (s i v : ℕ) : Type 0 where
@@ -24,3 +26,10 @@ pub record LowestAfter (m : ℕ) (before : List ℕ) (s left r : ℕ) : Type 0 w
   pub member : r < m → Has left r
   pub after : r < m → Within (getD before r 0) s
   pub none : (d : ℕ) → d < r → Has left d → Within (getD before d 0) s → ⊥
+
+pub record NextAfter (k m : ℕ) (before table : List ℕ) (s left r : ℕ) : Type 0 where
+  pub bound : r ≤ m
+  pub member : r < m → Has left r
+  pub after : r < m → Within (getD before r 0) s
+  pub unseen : r < m → isSeen k table s r ≡ false
+  pub tried : (d : ℕ) → d < r → Has left d → Within (getD before d 0) s → isSeen k table s d ≡ true

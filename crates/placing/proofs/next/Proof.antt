@@ -2,16 +2,17 @@
 -- number. Assumes nothing.
 use mathlib.Core.Path.{_≡_, sym, ap, _∙_, subst}
 use mathlib.Core.Logic.{⊎-elim}
-use Prim.Native.Nat.{ℕ, _%_, _<_}
+use Prim.Native.Nat.{ℕ, _%_}
 use native.Mathlib.Nat.{mod-eq-of-lt}
 use native.Mathlib.Omega.{arith}
 use borrow.Author.Tests.{not-true, not-false}
 use denote.Ref.{now}
 use lib.ListN.{getD}
-use Rattle.sets.specs.Mask.{slots, insert, remove, above}
+use Rattle.sets.specs.Mask.{slots, remove}
 use Rattle.sets.proofs.MaskLaws.{remove-lt}
 use Rattle.marks.specs.Table.{isMarked}
 use Rattle.placing.specs.Placing.{Free, isSeen}
+use Rattle.placing.proofs.PlacingLaws.{looked}
 use Rattle.placing.proofs.UntriedLaws.{Untried, untried-start, untried-lowest, untried-hit, untried-next, untried-end}
 use borrow.Author.Needs.{needs}
 use Rattle.placing.proofs.next.Statement.{statement}
@@ -22,10 +23,6 @@ Inv-loop k m before bars writers table s from left₀ left = Untried s m from (�
 
 abbrev μ-loop : tie.MeasureT-loop
 μ-loop k m before bars writers table s from left₀ left = left
-
--- the set that is looked up
-looked : (s e k : ℕ) {w x : ℕ} → e < slots → w ≡ insert s (e % slots) → x ≡ above w k → x ≡ above (insert s e) k
-looked s e k h a b = b ∙ ap (λ (y : ℕ). above y k) (a ∙ ap (insert s) (mod-eq-of-lt h))
 
 rest-requires : tie.Need-rest-requires Inv-loop μ-loop
 rest-requires c κs = search needs

@@ -7,6 +7,7 @@ use ranges::unbroken;
 ghost use mathlib.Core.Path.{_≡_};
 ghost use lib.Dec.{eqb};
 ghost use Rattle.basis.specs.Test.{_and_, _or_};
+ghost use Rattle.format.specs.Shape.{initial};
 ghost use Rattle.content.specs.Content.{within, inside, initFormed, sized, kindFits, otherFormed, formed, tearFits, alone};
 
 pub fn within(lo: u8, hi: u8, n: u8) -> bool
@@ -79,6 +80,13 @@ pub fn tear_fits(a: Shape) -> bool
         return a.tear <= 1;
     }
     a.tear == 0
+}
+
+// An init, but for its tear byte.
+pub fn init_alone(h: Head, agent: u8, a: Shape) -> bool
+    ensures { λ r. ⌜ r ≡ (inside (h .size) a and (initial a and initFormed agent a)) ⌝ }
+{
+    inside(h.size, a) & (access::initial(a) & init_formed(agent, a))
 }
 
 // An event that is no init, but for its tear byte.

@@ -1,26 +1,26 @@
 -- Fields that pass every test, from the tests of the code. Assumes nothing.
 --     head-told                a head; as the code tests it: head-same, head-not, head-all
---     init-told                an init; as the code tests it: init-short, init-later, init-not, init-all
+--     init-told                an init; as the code tests it: init-short, init-all
 --     other-told               an event that is no init, by edition 2's layout and, there, its tear byte; as the code tests it: other-short, other-torn, other-all
 use Prim.Native.Nat.{ℕ, _+_, _-_, _≤_, _<_}
 use mathlib.Core.Path.{_≡_, refl, sym, ap, _∙_, subst}
-use mathlib.Core.Bool.{Bool, true, false, cond, not, _&&_}
+use mathlib.Core.Bool.{Bool, true, false, cond, not, _&&_, _||_}
 use mathlib.Core.List.{List}
 use mathlib.Core.Logic.{_⊎_, inl, inr}
 use native.Mathlib.Omega.{arith}
 use borrow.Author.Tests.{eqb-true, eq-eqb, ne-eqb, le-ltb, lt-ltb, leb-true, ltb-true, ltb-false, le-leb, lt-leb, not-true, not-false}
 use lib.Dec.{eqb, ltb, leb}
 use lib.ListN.{length, length-take, length-drop}
-use Rattle.basis.specs.Test.{_and_, _or_}
-use Rattle.basis.proofs.BoolLaws.{and-both, and-holds, and-fails, or-either, both-hold, or-holds, non-holds}
+use Rattle.basis.specs.Test.{_and_, _or_, non}
+use Rattle.basis.proofs.BoolLaws.{and-both, and-holds, and-fails, or-either, both-hold, or-holds, or-fails, or-second, non-holds, non-fails}
 use Rattle.format.specs.declared.Shape.{Shape}
 use Rattle.format.specs.Shape.{tearOf, initial, sc}
 use Rattle.format.specs.Limits.{maxInits, maxOthers}
 use Rattle.format.specs.Field.{tagAt, lengthAt, nextAt, valueAt, restAt}
 use Rattle.format.specs.Layout.{eventBytes, dataBytes, tearBy, agentOf, shapeOf}
 use Rattle.format.proofs.LayoutLaws.{event-low, agent-front, shape-front}
-use Rattle.content.specs.Content.{within, inside, sized, kindFits, otherFormed, formed, tearFits, alone, eventFits, roomIn}
-use Rattle.content.proofs.ContentLaws.{within-elim, rule-fits}
+use Rattle.content.specs.Content.{within, inside, sized, kindFits, initFormed, otherFormed, formed, tearFits, alone, standsFirst, eventFits, roomIn}
+use Rattle.content.proofs.ContentLaws.{within-elim, tear-holds, rule-fits}
 use Rattle.parse.specs.Parse.{allowed, headFault, eventFaultBy, valueFaultBy, faultBy}
 use Rattle.parse.proofs.FormedLaws.{passed, passed-non}
 use Rattle.entries.specs.declared.Counts.{Counts}
@@ -39,6 +39,10 @@ head-plain s h e f =
       tag = e;
       clean = λ x at. passed _ _ _ (le-ltb (length s) 3 (omega arith)) (passed-non _ _ _ (simp e) (passed _ _ _ (le-ltb (length s) (nextAt s 0) h) (simp (e, f))));
     }
+
+-- 0 is no sc mode
+not-sc : (m : ℕ) → m ≡ 0 → m ≡ 2 → ⊥
+not-sc m e f = omega arith
 
 -- a mode of 1 or 2
 later : (m : ℕ) → (eqb m 1 ≡ true) ⊎ (eqb m 2 ≡ true) → eqb m 0 ≡ false
@@ -128,19 +132,44 @@ module _ (s : List ℕ) (p : ℕ) (x : Counts) (at : List ℕ) (reach : nextAt s
   unfolding roomIn
   other-room e h = let l : x .events - x .inits < maxOthers = omega arith in rw e (lt-ltb (x .events - x .inits) maxOthers l)
 
+  init-tear : b .mode ≡ 0 → (non (eqb ed 2) or eqb (b .tear) 0) ≡ true → tearFits a ≡ true
+  init-tear m h = go (eqb ed 2) refl
+    where
+      go : (c : Bool) → eqb ed 2 ≡ c → tearFits a ≡ true
+      go false q = rule-fits a (tear-ruled q)
+      go true q =
+          let e : ed ≡ 2 = eqb-true _ _ q in
+          let t : b .tear ≡ 0 = eqb-true _ _ (sym (or-fails _ _ (non-fails _ q)) ∙ h) in
+          rw e (tear-holds b (record { byte = omega (arith, t); must = λ n _. absurd (not-sc (b .mode) m n); none-else = λ _ _. t }))
+
+  init-fits : (inside (x .head .size) b and (initial b and initFormed by b)) ≡ true → (non (eqb ed 2) or eqb (b .tear) 0) ≡ true
+      → standsFirst (eventsIn s x at) a ≡ true → eventFits (x .head) (eventsIn s x at) by a ≡ true
+  unfolding eventFits alone inside initial formed initFormed
+  init-fits h t f =
+      let v = and-both (inside (x .head .size) b) _ h in
+      let w = and-both (initial b) _ (v .1) in
+      both-hold _ _ (both-hold _ _ (v .0) (both-hold _ _ (rw (w .0) (w .1)) (init-tear (eqb-true _ _ (w .0)) t))) (or-second _ _ f)
+
+  init-agent : (inside (x .head .size) b and (initial b and initFormed by b)) ≡ true → eqb by 0 ≡ true
+  unfolding initFormed
+  init-agent h = and-both (eqb by 0) _ (and-both (initial b) _ (and-both (inside (x .head .size) b) _ h .1) .1) .0
+
   init-room : eqb by 0 ≡ true → x .inits < maxInits → roomBy x by ≡ true
   unfolding roomIn
   init-room e h = rw e (lt-ltb _ _ h)
 
 -- from the tests of the code
 module _ (s : List ℕ) (p : ℕ) (x : Counts) (at : List ℕ) (front : p + frontBytes ≤ length s) (e : eqb (tagAt s p) 2 ≡ true) where
-  init-plain : (eqb (lengthAt s p) (eventBytes (x .head .edition) + dataBytes (shapeOf (x .head .edition) (restAt s p))) and leb (nextAt s p) (length s)) ≡ true
-      → eqb (agentOf (restAt s p)) 0 ≡ true → ltb (x .inits) maxInits ≡ true
-      → eventFits (x .head) (eventsIn s x at) (agentOf (restAt s p)) (shapeOf (x .head .edition) (restAt s p)) ≡ true → PlainEvent s p x at true
-  init-plain h g r f =
-      let v = and-both (eqb (lengthAt s p) (eventBytes (x .head .edition) + dataBytes (shapeOf (x .head .edition) (restAt s p)))) _ h in
+  init-plain : (eqb (lengthAt s p) (eventBytes (x .head .edition) + dataBytes (shapeOf 2 (restAt s p))) and leb (nextAt s p) (length s)) ≡ true
+      → (inside (x .head .size) (shapeOf 2 (restAt s p)) and (initial (shapeOf 2 (restAt s p)) and initFormed (agentOf (restAt s p)) (shapeOf 2 (restAt s p)))) ≡ true
+      → (non (eqb (x .head .edition) 2) or eqb (shapeOf 2 (restAt s p) .tear) 0) ≡ true → ltb (x .inits) maxInits ≡ true
+      → standsFirst (eventsIn s x at) (shapeOf (x .head .edition) (restAt s p)) ≡ true → PlainEvent s p x at true
+  unfolding dataBytes
+  init-plain h o t r f =
+      let v = and-both (eqb (lengthAt s p) (eventBytes (x .head .edition) + dataBytes (shapeOf 2 (restAt s p)))) _ h in
       let l = leb-true (nextAt s p) (length s) (v .1) in
-      subst (PlainEvent s p x at) g (event-plain s p x at l (eqb-true _ _ (v .0)) front (eqb-true _ _ e) f (init-room s p x at l g (ltb-true _ _ r)))
+      let g = init-agent s p x at l o in
+      subst (PlainEvent s p x at) g (event-plain s p x at l (eqb-true _ _ (v .0)) front (eqb-true _ _ e) (init-fits s p x at l o t f) (init-room s p x at l g (ltb-true _ _ r)))
 
   other-plain : (eqb (lengthAt s p) (eventBytes (x .head .edition) + dataBytes (shapeOf 2 (restAt s p))) and leb (nextAt s p) (length s)) ≡ true
       → (inside (x .head .size) (shapeOf 2 (restAt s p)) and ((eqb (shapeOf 2 (restAt s p) .mode) 1 or eqb (shapeOf 2 (restAt s p) .mode) 2) and otherFormed (x .head .agents) (agentOf (restAt s p)) (shapeOf 2 (restAt s p)))) ≡ true
@@ -166,21 +195,21 @@ head-told s r e =
           head-plain s (leb-true _ _ (u .1)) (eqb-true _ _ (w .1)) (eqb-true _ _ (v .1));
     }
 
-init-told : (s : List ℕ) (p : ℕ) (x : Counts) (at : List ℕ) (r : Bool) → r ≡ initTest s p x at → InitTold s p x at r
+init-told : (s : List ℕ) (p : ℕ) (x : Counts) (r : Bool) → r ≡ initTest s p x → InitTold s p x r
 unfolding initTest
-init-told s p x at r e =
+init-told s p x r e =
     record {
       is = e;
-      clean = λ h.
-          let a = shapeOf (x .head .edition) (restAt s p) in
-          let g = agentOf (restAt s p) in
+      front = λ h. leb-true _ _ (and-both (leb (p + frontBytes) (length s)) _ (sym e ∙ h) .0);
+      clean = λ h at f.
+          let b = shapeOf 2 (restAt s p) in
+          let o = inside (x .head .size) b and (initial b and initFormed (agentOf (restAt s p)) b) in
           let v = and-both (leb (p + frontBytes) (length s)) _ (sym e ∙ h) in
-          let u = and-both (initial a) _ (v .1) in
-          let w = and-both ((eqb (tagAt s p) 2 and endsTest s p (x .head .edition) a) and (eqb g 0 and ltb (x .inits) maxInits)) _ (u .1) in
-          let y = and-both (eqb (tagAt s p) 2 and endsTest s p (x .head .edition) a) (eqb g 0 and ltb (x .inits) maxInits) (w .0) in
-          let t = and-both (eqb (tagAt s p) 2) (endsTest s p (x .head .edition) a) (y .0) in
-          let m = and-both (eqb g 0) (ltb (x .inits) maxInits) (y .1) in
-          init-plain s p x at (leb-true _ _ (v .0)) (t .0) (t .1) (m .0) (m .1) (w .1);
+          let u = and-both ((eqb (tagAt s p) 2 and endsTest s p (x .head .edition) b) and o) _ (v .1) in
+          let w = and-both (eqb (tagAt s p) 2 and endsTest s p (x .head .edition) b) o (u .0) in
+          let t = and-both (eqb (tagAt s p) 2) (endsTest s p (x .head .edition) b) (w .0) in
+          let m = and-both (non (eqb (x .head .edition) 2) or eqb (b .tear) 0) (ltb (x .inits) maxInits) (u .1) in
+          init-plain s p x at (leb-true _ _ (v .0)) (t .0) (t .1) (w .1) (m .0) (m .1) f;
     }
 
 other-told : (s : List ℕ) (p : ℕ) (x : Counts) (r : Bool) → r ≡ otherTest s p x → OtherTold s p x r
@@ -221,39 +250,16 @@ module _ (s : List ℕ) (b : Bool) (e : b ≡ ((leb 3 (length s) and leb (nextAt
   unfolding headTest
   head-all h n f = head-told s (eqb n 0) (ap (λ (m : ℕ). eqb m 0) f ∙ sym (and-holds _ _ (sym e ∙ not-false b h)))
 
-module _ (s : List ℕ) (p : ℕ) (x : Counts) (at : List ℕ) where
-  pub init-short : ltb (length s) (p + frontBytes) ≡ true → InitTold s p x at false
+module _ (s : List ℕ) (p : ℕ) (x : Counts) where
+  pub init-short : ltb (length s) (p + frontBytes) ≡ true → InitTold s p x false
   unfolding initTest
-  init-short h = init-told s p x at false (sym (and-fails _ _ (not-in (length s) (p + frontBytes) h)))
+  init-short h = init-told s p x false (sym (and-fails _ _ (not-in (length s) (p + frontBytes) h)))
 
-  module _ (l : ltb (length s) (p + frontBytes) ≡ false) (a : Shape) (ea : a ≡ shapeOf (x .head .edition) (restAt s p)) (f : Bool) (ef : f ≡ initial a) where
-    first : f ≡ initial (shapeOf (x .head .edition) (restAt s p))
-    first = ef ∙ ap initial ea
-
-    pub init-later : not f ≡ true → InitTold s p x at false
-    unfolding initTest
-    init-later h =
-        init-told s p x at false (sym (and-holds _ _ (in-sheet (length s) (p + frontBytes) l) ∙ and-fails _ _ (sym first ∙ not-true f h)))
-
-    module _ (h : not f ≡ false) (g t : ℕ) (eg : g ≡ agentOf (restAt s p)) (et : t ≡ tagAt s p) (c : Bool) (ec : c ≡ endsTest s p (x .head .edition) a) where
-      same : ((eqb t 2 && c) && (eqb g 0 && ltb (x .inits) maxInits))
-          ≡ ((eqb (tagAt s p) 2 and endsTest s p (x .head .edition) (shapeOf (x .head .edition) (restAt s p))) and (eqb (agentOf (restAt s p)) 0 and ltb (x .inits) maxInits))
-      unfolding _and_
-      same = rw (et, ec, eg, ea) refl
-
-      pub init-not : not ((eqb t 2 && c) && (eqb g 0 && ltb (x .inits) maxInits)) ≡ true → InitTold s p x at false
-      unfolding initTest
-      init-not n =
-          init-told s p x at false
-          (sym (and-holds _ _ (in-sheet (length s) (p + frontBytes) l) ∙ and-holds _ _ (sym first ∙ not-false f h) ∙ and-fails _ _ (sym same ∙ not-true _ n)))
-
-      pub init-all : not ((eqb t 2 && c) && (eqb g 0 && ltb (x .inits) maxInits)) ≡ false → (r : Bool) → r ≡ eventFits (x .head) (eventsIn s x at) g a
-          → InitTold s p x at r
-      unfolding initTest
-      init-all n r er =
-          init-told s p x at r
-          (er ∙ ap (λ (i : ℕ). eventFits (x .head) (eventsIn s x at) i a) eg ∙ ap (eventFits (x .head) (eventsIn s x at) (agentOf (restAt s p))) ea
-          ∙ sym (and-holds _ _ (in-sheet (length s) (p + frontBytes) l) ∙ and-holds _ _ (sym first ∙ not-false f h) ∙ and-holds _ _ (sym same ∙ not-false _ n)))
+  pub init-all : ltb (length s) (p + frontBytes) ≡ false → (a : Shape) → a ≡ shapeOf 2 (restAt s p) → (g t : ℕ) → g ≡ agentOf (restAt s p) → t ≡ tagAt s p → (c o : Bool)
+      → c ≡ endsTest s p (x .head .edition) a → o ≡ (inside (x .head .size) a and (initial a and initFormed g a))
+      → InitTold s p x (((eqb t 2 && c) && o) && ((not (eqb (x .head .edition) 2) || eqb (a .tear) 0) && ltb (x .inits) maxInits))
+  unfolding initTest _and_ _or_ non
+  init-all l a ea g t eg et c o ec eo = init-told s p x _ (rw (et, ec, eo, eg, ea) (sym (and-holds _ _ (in-sheet (length s) (p + frontBytes) l))))
 
 module _ (s : List ℕ) (p : ℕ) (x : Counts) where
   pub other-short : ltb (length s) (p + frontBytes) ≡ true → OtherTold s p x false

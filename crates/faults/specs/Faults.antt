@@ -9,7 +9,7 @@
 --     PlainHead s              the first field is a head without a fault
 --     PlainEvent s p x at b    the field at p is an event without a fault, behind a head or an event; b tells whether of agent 0
 --     headTest, initTest, otherTest     the tests of a head, an init, another event, as the code makes them
---     HeadTold, InitTold, OtherTold     an answer is the test's, and what passes has no fault
+--     HeadTold, InitTold, OtherTold     an answer is the test's, and what passes has no fault; an init: where it stands first
 -- Assumes nothing.
 use mathlib.Core.Path.{_≡_}
 use mathlib.Core.Bool.{Bool, true, false, cond}
@@ -17,14 +17,14 @@ use mathlib.Core.List.{List}
 use Prim.Native.Nat.{ℕ, _+_, _-_, _≤_}
 use lib.Dec.{eqb, leb, ltb}
 use lib.ListN.{length, take}
-use Rattle.basis.specs.Test.{_and_, _or_}
+use Rattle.basis.specs.Test.{_and_, _or_, non}
 use Rattle.format.specs.declared.Shape.{Shape}
 use Rattle.format.specs.Shape.{initial}
 use Rattle.format.specs.Limits.{maxInits, maxOthers}
 use Rattle.format.specs.Execution.{inits}
 use Rattle.format.specs.Field.{fieldBytes, tagAt, lengthAt, nextAt, valueAt, restAt}
 use Rattle.format.specs.Layout.{eventBytes, dataBytes, agentOf, shapeOf}
-use Rattle.content.specs.Content.{within, inside, otherFormed, tearFits, eventFits, roomIn}
+use Rattle.content.specs.Content.{within, inside, initFormed, otherFormed, tearFits, standsFirst, roomIn}
 use Rattle.parse.specs.Parse.{State, headFault, faultBy}
 use Rattle.entries.specs.declared.Counts.{Counts}
 use Rattle.entries.specs.Entries.{eventsIn, execution}
@@ -68,13 +68,13 @@ headTest s = ((leb fieldBytes (length s) and leb (nextAt s 0) (length s)) and eq
 abbrev pub endsTest : List ℕ → ℕ → ℕ → Shape → Bool
 endsTest s p edition a = eqb (lengthAt s p) (eventBytes edition + dataBytes a) and leb (nextAt s p) (length s)
 
--- the field at p is an init that fits, with room for it
-unfoldable pub initTest : List ℕ → ℕ → Counts → List ℕ → Bool
-initTest s p x at =
+-- the field at p is an init by itself, with room for it: by edition 2's layout, whose tear byte only edition 2 asks for
+unfoldable pub initTest : List ℕ → ℕ → Counts → Bool
+initTest s p x =
     leb (p + frontBytes) (length s)
-    and (initial (shapeOf (x .head .edition) (restAt s p))
-    and (((eqb (tagAt s p) 2 and endsTest s p (x .head .edition) (shapeOf (x .head .edition) (restAt s p))) and (eqb (agentOf (restAt s p)) 0 and ltb (x .inits) maxInits))
-    and eventFits (x .head) (eventsIn s x at) (agentOf (restAt s p)) (shapeOf (x .head .edition) (restAt s p))))
+    and (((eqb (tagAt s p) 2 and endsTest s p (x .head .edition) (shapeOf 2 (restAt s p)))
+    and (inside (x .head .size) (shapeOf 2 (restAt s p)) and (initial (shapeOf 2 (restAt s p)) and initFormed (agentOf (restAt s p)) (shapeOf 2 (restAt s p)))))
+    and ((non (eqb (x .head .edition) 2) or eqb (shapeOf 2 (restAt s p) .tear) 0) and ltb (x .inits) maxInits))
 
 -- the field at p is an event of mode 1 or 2 that fits, with room for it: by edition 2's layout, whose tear byte only edition 2 asks for
 unfoldable pub otherTest : List ℕ → ℕ → Counts → Bool
@@ -89,9 +89,11 @@ pub record HeadTold (s : List ℕ) (r : Bool) : Type 0 where
   pub is : r ≡ headTest s
   pub clean : r ≡ true → PlainHead s
 
-pub record InitTold (s : List ℕ) (p : ℕ) (x : Counts) (at : List ℕ) (r : Bool) : Type 0 where
-  pub is : r ≡ initTest s p x at
-  pub clean : r ≡ true → PlainEvent s p x at true
+-- what stands before it is left to the caller
+pub record InitTold (s : List ℕ) (p : ℕ) (x : Counts) (r : Bool) : Type 0 where
+  pub is : r ≡ initTest s p x
+  pub front : r ≡ true → p + frontBytes ≤ length s
+  pub clean : r ≡ true → (at : List ℕ) → standsFirst (eventsIn s x at) (shapeOf (x .head .edition) (restAt s p)) ≡ true → PlainEvent s p x at true
 
 pub record OtherTold (s : List ℕ) (p : ℕ) (x : Counts) (r : Bool) : Type 0 where
   pub is : r ≡ otherTest s p x

@@ -189,9 +189,9 @@ fn tear_clean(edition: u8, a: Shape) -> bool
     }
 }
 
-// The field at p, behind a head or an init, as an init.
-pub fn plain_init(s: &[u8], p: u16, x: Counts, at: &[u16]) -> bool
-    ensures { λ r. ⌜ InitTold (now (s .entry)) p x (now (at .entry)) r ⌝ }
+// The field at p, behind a head or an init, as an init by itself. As below it is read by edition 2's layout.
+pub fn plain_init(s: &[u8], p: u16, x: Counts) -> bool
+    ensures { λ r. ⌜ InitTold (now (s .entry)) p x r ⌝ }
 {
     let place = p as usize;
     let short = s.len() < place + FRONT_BYTES;
@@ -199,18 +199,11 @@ pub fn plain_init(s: &[u8], p: u16, x: Counts, at: &[u16]) -> bool
         return false;
     }
     let edition = x.head.edition;
-    let a = entries::shape_at(s, edition, p);
-    let first = access::initial(a);
-    if !first {
-        return false;
-    }
-    let agent = entries::agent_at(s, p);
+    let a = entries::shape_at(s, 2, p);
+    let fits = content::init_alone(x.head, entries::agent_at(s, p), a);
     let here = (field::byte(s, place) == 2) & event_ends(s, p, edition, a);
-    let room = (agent == 0) & (x.inits < MAX_INITS);
-    if !(here & room) {
-        return false;
-    }
-    fits::event_fits(s, x, at, agent, a)
+    let tear = !(edition == 2) | (a.tear == 0);
+    (here & fits) & (tear & (x.inits < MAX_INITS))
 }
 
 // The field at p, behind a head or an event, as an event that is no init. It is read by edition 2's layout, which has the tear byte as it

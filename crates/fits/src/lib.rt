@@ -5,7 +5,7 @@ use format::Row;
 use format::Shape;
 ghost use mathlib.Core.Path.{_≡_};
 ghost use Rattle.basis.specs.Test.{any};
-ghost use Rattle.content.specs.Content.{eventFits, rowRises, rowFits, pairRises, pairFits};
+ghost use Rattle.content.specs.Content.{standsFirst, eventFits, rowRises, rowFits, pairRises, pairFits};
 ghost use Rattle.entries.specs.Entries.{eventsIn, rowsIn, pairsIn};
 ghost use Rattle.fits.specs.steps.ByNumber.{shapeNo, agentNo, blocks};
 
@@ -54,6 +54,13 @@ fn blocked(s: &[u8], x: Counts, at: &[u16], a: Shape) -> bool
     false
 }
 
+// An init of shape a, behind the events so far.
+pub fn stands_first(s: &[u8], x: Counts, at: &[u16], a: Shape) -> bool
+    ensures { λ r. ⌜ r ≡ standsFirst (eventsIn (now (s .entry)) x (now (at .entry))) a ⌝ }
+{
+    !blocked(s, x, at, a)
+}
+
 // An event of this agent and shape, behind the events so far.
 pub fn event_fits(s: &[u8], x: Counts, at: &[u16], agent: u8, a: Shape) -> bool
     ensures { λ r. ⌜ r ≡ eventFits (x .head) (eventsIn (now (s .entry)) x (now (at .entry))) agent a ⌝ }
@@ -66,7 +73,7 @@ pub fn event_fits(s: &[u8], x: Counts, at: &[u16], agent: u8, a: Shape) -> bool
     if !first {
         return true;
     }
-    !blocked(s, x, at, a)
+    stands_first(s, x, at, a)
 }
 
 fn row_rises(s: &[u8], x: Counts, r: Row) -> bool

@@ -58,14 +58,14 @@ pairs-none : (s : List ℕ) (p n : ℕ) → n ≡ 0 → _≡_ {A = List Pair} []
 unfolding pairsOn spaced
 pairs-none s p n e = rw e refl
 
-events-none : (s : List ℕ) (edition n : ℕ) (at : List ℕ) → n ≡ 0 → _≡_ {A = List Event} [] (eventsOn s edition n at)
+pub events-none : (s : List ℕ) (edition n : ℕ) (at : List ℕ) → n ≡ 0 → _≡_ {A = List Event} [] (eventsOn s edition n at)
 unfolding eventsOn
 events-none s edition n at e = rw e refl
 
 places-more : (at : List ℕ) (n p : ℕ) → n < length at → take (n + 1) (set at n p) ≡ take n at ++ (p ∷ [])
 places-more at n p h = rw add-one (take-suc-set at n p h)
 
-events-more : (s : List ℕ) (edition : ℕ) (at : List ℕ) (n p : ℕ) → n < length at
+pub events-more : (s : List ℕ) (edition : ℕ) (at : List ℕ) (n p : ℕ) → n < length at
     → eventsOn s edition (n + 1) (set at n p) ≡ eventsOn s edition n at ++ (eventAt s edition p ∷ [])
 unfolding eventsOn
 events-more s edition at n p h = ap (map (eventAt s edition)) (places-more at n p h) ∙ map-append (eventAt s edition) (take n at) (p ∷ [])

@@ -6,3 +6,4 @@ pub mod TallyLaws
 pub mod PlainLaws
 pub mod TabledLaws
 pub mod GrowingLaws
+pub mod LinedLaws

@@ -39,7 +39,7 @@ ghost use Rattle.sheet.specs.Filled.{Filled};
 ghost use Rattle.tables.specs.Tables.{putting};
 ghost use Rattle.row_data.specs.RowData.{dataAt, passed};
 ghost use Rattle.faults.specs.Faults.{view, frontBytes};
-ghost use Rattle.sheet.specs.steps.Between.{Ready, Advanced, Turn, Tallied, tallyWith, Stands, Tabled, Carried, Grown, Shaped, TakenEvent, KnownRow, JoinedRow, TakenRow, withHead, behind, withEvent, withRow, withRows, withPair, Through, Scanned, parsedOf, refusal};
+ghost use Rattle.sheet.specs.steps.Between.{Ready, Advanced, Turn, Tallied, tallyWith, Stands, Tabled, Carried, Grown, Shaped, TakenEvent, Lined, FirstTold, KnownRow, JoinedRow, TakenRow, withHead, behind, withEvent, withRow, withRows, withPair, Through, Scanned, parsedOf, refusal};
 
 // ---- the counts behind a field
 
@@ -316,6 +316,35 @@ fn take_event(s: &[u8], edition: u8, p: u16, n: u8, k: Tally, at: &mut [u16], t:
     }
 }
 
+// Is the field at p an init without a fault, behind inits that lie before `high`? Inits mostly stand in the order of their ranges.
+fn plain_first(s: &[u8], p: u16, x: Counts, at: &[u16], high: u16) -> bool
+    requires { ⌜ Lined (eventsIn (now s) x (now at)) high ⌝ }
+    ensures { λ r. ⌜ FirstTold (now (s .entry)) p x (now (at .entry)) r ⌝ }
+{
+    let plain = faults::plain_init(s, p, x);
+    if !plain {
+        return false;
+    }
+    let a = shape_here(s, x.head.edition, p);
+    if high <= a.start as u16 {
+        return true;
+    }
+    fits::stands_first(s, x, at, a)
+}
+
+// The end of the init at p, or `high` where that is more.
+fn end_of(s: &[u8], p: u16, high: u16) -> u16
+    requires { ⌜ p + 9 ≤ length (now s) ⌝ }
+    ensures { λ r. ⌜ (high ≤ r) × (shapeOf 2 (restAt (now (s .entry)) p) .start + shapeOf 2 (restAt (now (s .entry)) p) .width ≤ r) ⌝ }
+{
+    let a = shape_here(s, 2, p);
+    let end = a.start as u16 + a.width as u16;
+    if high <= end {
+        return end;
+    }
+    high
+}
+
 fn inits(s: &[u8], spot: Spot, at: &mut [u16], t: &mut [u8]) -> Spot
     requires { ⌜ Stands (now s) spot (now at) ⌝ }
     ensures { λ r. ⌜ Grown (now (s .entry)) spot (now (at .entry)) (now (t .entry)) r (now (at .exit)) (now (t .exit)) ⌝ }
@@ -325,11 +354,12 @@ fn inits(s: &[u8], spot: Spot, at: &mut [u16], t: &mut [u8]) -> Spot
     let mut k = spot.t;
     let mut last = spot.last;
     let mut p = spot.p;
+    let mut high: u16 = 0;
     if last != 1 {
         return spot;
     }
     while (p as usize) < s.len() {
-        let plain = faults::plain_init(s, p, behind(h, n, n, p), at);
+        let plain = plain_first(s, p, behind(h, n, n, p), at, high);
         if !plain {
             return Spot {
                 p: p,
@@ -339,6 +369,7 @@ fn inits(s: &[u8], spot: Spot, at: &mut [u16], t: &mut [u8]) -> Spot
             };
         }
         let next = next_at(s, p);
+        high = end_of(s, p, high);
         k = take_event(s, h.edition, p, n, k, at, t);
         n = n + 1;
         last = 2;

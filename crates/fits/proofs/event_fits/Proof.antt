@@ -1,14 +1,11 @@
 -- `fits::event_fits` meets its contract, test by test. Assumes nothing.
-use mathlib.Core.Path.{_≡_, sym, ap, _∙_}
+use mathlib.Core.Path.{_≡_, sym, _∙_}
 use mathlib.Core.Bool.{true, false}
-use denote.Ref.{now}
 use borrow.Author.Tests.{not-true, not-false}
 use Rattle.basis.specs.Test.{non}
 use Rattle.basis.proofs.BoolLaws.{and-holds, and-fails, or-holds, or-fails, non-holds, non-fails}
 use Rattle.format.specs.Shape.{initial}
 use Rattle.content.specs.Content.{eventFits, alone}
-use Rattle.entries.specs.Entries.{eventsIn}
-use Rattle.fits.proofs.ByNumberLaws.{stands-free}
 use borrow.Author.Needs.{needs}
 use Rattle.fits.proofs.event_fits.Statement.{statement}
 use Rattle.fits.proofs.event_fits.Tie as tie
@@ -28,16 +25,16 @@ unfolding eventFits
 returns-2 c = let f : initial (c .before .before .before .before .before .before .args .a) ≡ false = sym (c .before .initial .ensures) ∙ not-true _ (c .if2 .taken) in
     sym (and-holds (alone (c .before .before .before .before .before .before .args .x .head) (c .before .before .before .before .before .before .args .agent) (c .before .before .before .before .before .before .args .a)) _ (sym (c .before .before .before .alone .ensures) ∙ not-false _ (c .before .before .if1 .left)) ∙ or-holds (non (initial (c .before .before .before .before .before .before .args .a))) _ (non-holds _ f))
 
-blocked-requires : tie.Need-blocked-requires
-blocked-requires c κs = search needs
+stands-first-requires : tie.Need-stands-first-requires
+stands-first-requires c κs = search needs
 
 returns-3 : tie.Need-returns-3
-unfolding eventFits non
+unfolding eventFits
 returns-3 c = let f : initial (c .before .before .before .before .before .before .before .args .a) ≡ true = sym (c .before .before .initial .ensures) ∙ not-false _ (c .before .if2 .left) in
     sym (and-holds (alone (c .before .before .before .before .before .before .before .args .x .head) (c .before .before .before .before .before .before .before .args .agent) (c .before .before .before .before .before .before .before .args .a)) _ (sym (c .before .before .before .before .alone .ensures) ∙ not-false _ (c .before .before .before .if1 .left))
-    ∙ or-fails (non (initial (c .before .before .before .before .before .before .before .args .a))) _ (non-fails _ f) ∙ stands-free (eventsIn (now (c .before .before .before .before .before .before .before .args .s)) (c .before .before .before .before .before .before .before .args .x) (now (c .before .before .before .before .before .before .before .args .at))) (c .before .before .before .before .before .before .before .args .a) ∙ ap non (sym (c .blocked .ensures)))
+    ∙ or-fails (non (initial (c .before .before .before .before .before .before .before .args .a))) _ (non-fails _ f) ∙ sym (c .stands-first .ensures))
 
 pub event-fits-spec : {M : Type 1} → statement M
 event-fits-spec =
     tie.close
-    (tie.spec alone-requires returns initial-requires returns-2 blocked-requires returns-3)
+    (tie.spec alone-requires returns initial-requires returns-2 stands-first-requires returns-3)

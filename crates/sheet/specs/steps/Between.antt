@@ -7,6 +7,7 @@
 --     Tabled, Carried               the tables hold the events and rows so far; they do so afterwards
 --     Grown, Shaped                 the table of accesses has grown with the events; their shapes stand in it
 --     TakenEvent                    an event has been taken into the places, the table and the tally
+--     Clear, Lined, FirstTold       no event so far lies at `high` or behind; all are inits; the test of an init
 --     KnownRow, JoinedRow           the tests of a row
 --     PlainRow, TakenRow            the field at p is a row without a fault, behind an event or a row; it has been taken
 --     Growing, Rowing               the loops over events and over rows
@@ -18,13 +19,14 @@ use mathlib.Core.List.{List}
 use Prim.Native.Nat.{ℕ, suc, _+_, _-_, _*_, _<_, _≤_}
 use lib.Dec.{eqb, ltb}
 use lib.ListN.{length, getD, drop, replicate, set}
+use Rattle.basis.specs.Test.{_and_, any, all}
 use Rattle.format.specs.declared.Head.{Head}
 use Rattle.format.specs.declared.Shape.{Shape}
 use Rattle.format.specs.declared.Row.{Row}
 use Rattle.sets.specs.Mask.{slots, mem, insert}
 use Rattle.format.specs.Limits.{maxBytes, maxInits, maxOthers}
 use Rattle.format.specs.Shape.{covers, reads, writes}
-use Rattle.format.specs.Event.{Event}
+use Rattle.format.specs.Event.{Event, isInit, meets}
 use Rattle.format.specs.Execution.{Execution, inits}
 use Rattle.format.specs.Field.{tagAt, lengthAt, nextAt, restAt, fieldPlace}
 use Rattle.format.specs.Layout.{shapeOf, rowBytes, rowGap, pairGap}
@@ -35,12 +37,12 @@ use Rattle.sheet.specs.declared.Scan.the-variants.{Stopped, Ended}
 use Rattle.sheet.specs.declared.Tally.{Tally}
 use Rattle.sheet.specs.declared.Spot.{Spot}
 use Rattle.sheet.specs.declared.Read.{Read}
-use Rattle.content.specs.Content.{within}
+use Rattle.content.specs.Content.{within, standsFirst}
 use Rattle.parse.specs.Parse.{Parsed, State, refused, whole, blank, faultAt, after, appears, finish, fieldsFrom, parse}
 use Rattle.entries.specs.declared.Counts.{Counts}
 use Rattle.entries.specs.Entries.{eventAt, eventsIn}
 use Rattle.lacking.specs.Bytes.{readWidth, readBytes}
-use Rattle.faults.specs.Faults.{view, faultIn}
+use Rattle.faults.specs.Faults.{view, faultIn, PlainEvent, initTest}
 use Rattle.tables.specs.Tables.{rowRoom}
 use Rattle.row_data.specs.RowData.{laidShape, rowPut}
 use Rattle.lay.specs.Lay.{eventPut, eventsPut, rowsPut}
@@ -126,6 +128,19 @@ pub record TakenEvent (s : List ℕ) (edition p n : ℕ) (k : Tally) (at t : Lis
   pub table : t′ ≡ eventPut s edition p n t
   pub tally : k′ ≡ tallyWith k (eventAt s 2 p)
   pub small : k′ .bytes ≤ k .bytes + 255
+
+-- what starts at `high` or behind meets no event
+abbrev pub Clear : List Event → ℕ → Type 0
+Clear events high = (a : Shape) → high ≤ a .start → any (meets a) events ≡ false
+
+pub record Lined (events : List Event) (high : ℕ) : Type 0 where
+  pub firsts : all isInit events ≡ true
+  pub clear : Clear events high
+
+-- the field at p is an init that fits where it stands, with room for it
+pub record FirstTold (s : List ℕ) (p : ℕ) (x : Counts) (at : List ℕ) (r : Bool) : Type 0 where
+  pub is : r ≡ (initTest s p x and standsFirst (eventsIn s x at) (shapeOf (x .head .edition) (restAt s p)))
+  pub clean : r ≡ true → PlainEvent s p x at true
 
 pub record PlainRow (s : List ℕ) (p : ℕ) (x : Counts) (at : List ℕ) : Type 0 where
   pub tag : tagAt s p ≡ 3

@@ -1,6 +1,6 @@
 -- The laws of specs/Arranged.antt. Assumes nothing.
 --     answered-by                      an answer by equal tables of bars
---     arranged-none, arranged-some     how the code's answers are made
+--     arranged-said                    how the code's answer is made
 --     arranged-unique                  two conforming answers are equal, both buffers too
 use mathlib.Core.Path.{_≡_, sym, ap, _∙_, subst}
 use mathlib.Core.Bool.{Bool, true, false}
@@ -20,15 +20,11 @@ pub answered-by : {k n : ℕ} {pred bars bars′ scratch order : List ℕ} {r : 
     → Answered k n pred bars′ scratch order r scratch′ order′
 answered-by {k} {n} {pred} {bars} {bars′} {scratch} {order} {r} {scratch′} {order′} e a = subst (λ (b : List ℕ). Answered k n pred b scratch order r scratch′ order′) e a
 
-module _ {k n m : ℕ} {t q succ pred scratch order : List ℕ} {found : Bool} {scratch′ order′ : List ℕ}
-    (a : Answered k n pred (barsOf t n succ pred q m) scratch order found scratch′ order′) where
-  pub arranged-none : found ≡ false → Arranged k n m t q succ pred scratch order (Broken 26 Nobody) scratch′ order′
-  arranged-none e = record { found = found; searched = a; says = ap (λ (b : Bool). saidOf b (settledIn t succ (min n slots))) (sym e) }
-
-  pub arranged-some : found ≡ true → {settled : Settled} → settled ≡ settledIn t succ (min n slots)
-      → Arranged k n m t q succ pred scratch order (Consistent settled) scratch′ order′
-  arranged-some e {settled} p =
-      record { found = found; searched = a; says = ap (λ (z : Settled). Consistent z) p ∙ ap (λ (b : Bool). saidOf b (settledIn t succ (min n slots))) (sym e) }
+-- how the code's answer is made
+pub arranged-said : {k n m : ℕ} {t q succ pred scratch order : List ℕ} {found : Bool} {scratch′ order′ : List ℕ}
+    → Answered k n pred (barsOf t n succ pred q m) scratch order found scratch′ order′ → {r : Answer} → r ≡ saidOf found (settledIn t succ (min n slots))
+    → Arranged k n m t q succ pred scratch order r scratch′ order′
+arranged-said {found = found} a e = record { found = found; searched = a; says = e }
 
 pub arranged-unique : {k n m : ℕ} {t q succ pred scratch order : List ℕ} {r a : Answer} {s s′ o o′ : List ℕ}
     → Arranged k n m t q succ pred scratch order r s o → Arranged k n m t q succ pred scratch order a s′ o′ → (r ≡ a) × (s ≡ s′) × (o ≡ o′)

@@ -1,12 +1,15 @@
 // The last step over tables, where no rule of 21 to 25 is broken: the bars, the search, and the unsettled pair. The first order, or 26.
 use answer::Answer;
 use answer::Names;
-use bars::LIST;
 use sets::SLOTS;
 use tables::COLUMNS;
 use tables::ROW_CELLS;
+ghost use mathlib.Core.Path.{_≡_};
+ghost use Prim.Native.Nat.{min};
+ghost use Rattle.sets.specs.Mask.{slots};
+ghost use Rattle.settle.specs.Settle.{settledIn};
 ghost use Rattle.orders.specs.Answer.{Answered};
-ghost use Rattle.arrange.specs.Arranged.{barsOf, Arranged};
+ghost use Rattle.arrange.specs.Arranged.{barsOf, saidOf, Arranged};
 
 // How many masks of bars there are: one for each V and W.
 const BARS: usize = SLOTS * SLOTS;
@@ -30,53 +33,19 @@ fn by_table(
     orders::first(inits, events, pred, &bars, scratch, order)
 }
 
-// The same: by a list, where there is room for all that it has to have, which is mostly little.
-fn seek(
-    inits: usize,
-    events: usize,
-    rows: usize,
-    t: &[u8; COLUMNS],
-    q: &[u8; ROW_CELLS],
-    succ: &[u32; SLOTS],
-    pred: &[u32; SLOTS],
-    scratch: &mut [u8],
-    order: &mut [u8],
-) -> bool
-    ensures { λ r. ⌜ Answered inits events (now (pred .entry)) (barsOf (now (t .entry)) events (now (succ .entry)) (now (pred .entry)) (now (q .entry)) rows) (now (scratch .entry)) (now (order .entry)) r (now (scratch .exit)) (now (order .exit)) ⌝ }
+// What is said where an order was found or not: the unsettled pair, or 26.
+pub fn said(found: bool, t: &[u8; COLUMNS], succ: &[u32; SLOTS], events: usize) -> Answer
+    ensures { λ r. ⌜ r ≡ saidOf found (settledIn (now (t .entry)) (now (succ .entry)) (min events slots)) ⌝ }
 {
-    let mut between = [0u32; LIST];
-    let mut readers = [0u8; LIST];
-    let mut writers = [0u8; LIST];
-    let n = bars::list(
-        inits,
-        t,
-        events,
-        succ,
-        pred,
-        q,
-        rows,
-        &mut between,
-        &mut readers,
-        &mut writers,
-    );
-    if n < LIST {
-        return orders::first_listed(
-            inits,
-            events,
-            pred,
-            &between,
-            &readers,
-            &writers,
-            n,
-            scratch,
-            order,
-        );
+    if !found {
+        return Answer::Broken(26, Names::Nobody);
     }
-    by_table(inits, events, rows, t, q, succ, pred, scratch, order)
+    let settled = settle::settle(t, succ, events);
+    Answer::Consistent(settled)
 }
 
-// The answer on tables of so many inits, events and rows, with happens-before by rows and by columns; the order goes to the front of the order
-// buffer.
+// The answer on tables of so many inits, events and rows, with happens-before by rows and by columns, where the bars are not listed; the order goes
+// to the front of the order buffer.
 pub fn arrange(
     inits: usize,
     events: usize,
@@ -90,10 +59,6 @@ pub fn arrange(
 ) -> Answer
     ensures { λ r. ⌜ Arranged inits events rows (now (t .entry)) (now (q .entry)) (now (succ .entry)) (now (pred .entry)) (now (scratch .entry)) (now (order .entry)) r (now (scratch .exit)) (now (order .exit)) ⌝ }
 {
-    let found = seek(inits, events, rows, t, q, succ, pred, scratch, order);
-    if !found {
-        return Answer::Broken(26, Names::Nobody);
-    }
-    let settled = settle::settle(t, succ, events);
-    Answer::Consistent(settled)
+    let found = by_table(inits, events, rows, t, q, succ, pred, scratch, order);
+    said(found, t, succ, events)
 }

@@ -6,7 +6,6 @@
 --     listed-full                  a row more where there is no room
 --     listed-new, listed-old       a row more with an entry for it; one that needs none
 --     had-new, had-old             and the last row then
---     listed-by                    the same by equal sets of equal ranges
 --     same-both                    as the code compares two rows
 --     listed-next                  a row more, as the code enters it
 use mathlib.Core.Path.{_≡_, refl, sym, ap, _∙_, subst}
@@ -130,10 +129,6 @@ module _ (t eq succ pred q : List ℕ) (k : ℕ) where
             forth j b v p (yes d) =
                 let f : listsIn t eq succ pred k (rowIn q m) v ≡ true = subst (λ (z : ℕ). listsIn t eq succ pred k (rowIn q z) v ≡ true) d p in
                 subst (λ (z : ℕ). (i : ℕ) × (i < n) × Entry (set between n c) (set readers n r) (set writers n w) i (rowIn q z .reader) (rowIn q z .writer) v) (sym d) (last v (is v ∙ f))
-
-pub listed-by : {t eq eq′ succ pred q : List ℕ} {k m n : ℕ} {between readers writers : List ℕ} → eq ≡ eq′ → Listed t eq succ pred q k m n between readers writers
-    → Listed t eq′ succ pred q k m n between readers writers
-listed-by {t} {eq} {eq′} {succ} {pred} {q} {k} {m} {n} {between} {readers} {writers} e l = subst (λ (x : List ℕ). Listed t x succ pred q k m n between readers writers) e l
 
 -- ---- a row more, as the code enters it
 

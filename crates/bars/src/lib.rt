@@ -1,4 +1,4 @@
-// Bars by masks: at v * 32 + w of the bars stands the mask of the readers R with a bar (R, W, V). The sets of equal ranges come from crate `ranges`.
+// Bars by masks: at v * 32 + w of the bars stands the mask of the readers R with a bar (R, W, V). The sets of equal ranges come from crate `alike`.
 // No function has a `requires`.
 use cells::spread;
 use format::Row;
@@ -10,16 +10,12 @@ use tables::COLUMNS;
 use tables::ROW_CELLS;
 use tables::ROWS;
 ghost use mathlib.Core.Path.{_≡_};
-ghost use mathlib.Core.Bool.{true};
-ghost use Prim.Native.Nat.{ℕ, _%_, _≤_, min};
-ghost use lib.ListN.{length};
+ghost use Prim.Native.Nat.{ℕ, _%_, min};
 ghost use Rattle.basis.specs.Test.{_and_, non};
 ghost use Rattle.sets.specs.Mask.{slots, mem};
 ghost use Rattle.tables.specs.Tables.{rowRoom};
-ghost use Rattle.alike.specs.Ranges.{equalsIn};
-ghost use Rattle.bars.specs.Listed.{listRoom, goneIn, Listed};
+ghost use Rattle.bars.specs.Listed.{goneIn};
 ghost use Rattle.bars.specs.steps.Covered.{coveredIn};
-ghost use Rattle.bars.specs.steps.Entering.{Entering};
 ghost use Rattle.bars.specs.Bars.{reasonsIn, maskIn, barsIn, filledIn};
 
 // How many entries a list has room for.
@@ -71,31 +67,6 @@ pub fn covered(t: &[u8; COLUMNS], r: Row) -> bool
     ranges::covers(a, r.address) & ranges::covers(b, r.address)
 }
 
-// What `of_row` answers where they do: no slot is looked for.
-fn first_row(
-    t: &[u8; COLUMNS],
-    eq: &[u32; ACCESSES],
-    succ: &[u32; SLOTS],
-    pred: &[u32; SLOTS],
-    r: Row,
-) -> u32
-    ensures { λ y. ⌜ (coveredIn (now (t .entry)) r ≡ true → y ≡ maskIn (now (t .entry)) (now (eq .entry)) (now (succ .entry)) (now (pred .entry)) r) ⌝ }
-{
-    let reader = r.reader as usize % SLOTS;
-    let writer = r.writer as usize % SLOTS;
-    let after = succ[writer];
-    let m = reasons(
-        tables::shape(t, 2 * reader),
-        tables::shape(t, 2 * writer),
-        eq[2 * reader],
-        eq[2 * writer],
-        sets::has(after, reader),
-        pred[reader],
-        after,
-    );
-    sets::without(sets::without(m, reader), writer)
-}
-
 // Adds the bars of the first n rows.
 fn add(
     t: &[u8; COLUMNS],
@@ -122,122 +93,6 @@ pub fn late(k: usize, pred: &[u32; SLOTS], w: usize, m: u32) -> u32
 {
     let i = w % SLOTS;
     m & !sets::only(k <= i, pred[i])
-}
-
-// An entry for the row r, with the set b, where there is room: the number of entries then. None is counted for an empty set, and none where `again`
-// says that there is one.
-fn enter(
-    n: usize,
-    b: u32,
-    r: Row,
-    again: bool,
-    between: &mut [u32],
-    readers: &mut [u8],
-    writers: &mut [u8],
-) -> usize
-    requires { ⌜ (length (now between) ≡ listRoom) × (length (now readers) ≡ listRoom) × (length (now writers) ≡ listRoom) ⌝ }
-    ensures { λ z. ⌜ Entering n b r again z (now (between .entry)) (now (readers .entry)) (now (writers .entry)) (now (between .exit)) (now (readers .exit)) (now (writers .exit)) ⌝ }
-{
-    if LIST <= n {
-        return n;
-    }
-    between[n] = b;
-    readers[n] = r.reader;
-    writers[n] = r.writer;
-    n + ((b != 0) & !again) as usize
-}
-
-// A list of what the first rows bar, but for what is gone; a row that lists what the row before it does, for the same two events, is one with it.
-// Where the list is full more may be missing.
-fn collect(
-    k: usize,
-    t: &[u8; COLUMNS],
-    eq: &[u32; ACCESSES],
-    succ: &[u32; SLOTS],
-    pred: &[u32; SLOTS],
-    q: &[u8; ROW_CELLS],
-    rows: usize,
-    between: &mut [u32],
-    readers: &mut [u8],
-    writers: &mut [u8],
-) -> usize
-    requires { ⌜ (length (now between) ≡ listRoom) × (length (now readers) ≡ listRoom) × (length (now writers) ≡ listRoom) ⌝ }
-    ensures { λ n. ⌜ Listed (now (t .entry)) (now (eq .entry)) (now (succ .entry)) (now (pred .entry)) (now (q .entry)) k (min rows rowRoom) n (now (between .exit)) (now (readers .exit)) (now (writers .exit)) ⌝ }
-{
-    let m = least(rows, ROWS);
-    let mut n: usize = 0;
-    let mut last_reader: u8 = 0;
-    let mut last_writer: u8 = 0;
-    let mut last: u32 = 0;
-    for j in 0..m {
-        let r = rows::row(q, j);
-        let b = late(k, pred, r.writer as usize, of_row(t, eq, succ, pred, r));
-        let again = (r.reader == last_reader) & ((r.writer == last_writer) & (b == last));
-        n = enter(n, b, r, again, between, readers, writers);
-        last_reader = r.reader;
-        last_writer = r.writer;
-        last = b;
-    }
-    n
-}
-
-// The same by first accesses alone. An answer above `LIST` says that a row has a byte that they do not cover; the list is worth nothing then.
-fn collect_first(
-    k: usize,
-    t: &[u8; COLUMNS],
-    eq: &[u32; ACCESSES],
-    succ: &[u32; SLOTS],
-    pred: &[u32; SLOTS],
-    q: &[u8; ROW_CELLS],
-    rows: usize,
-    between: &mut [u32],
-    readers: &mut [u8],
-    writers: &mut [u8],
-) -> usize
-    requires { ⌜ (length (now between) ≡ listRoom) × (length (now readers) ≡ listRoom) × (length (now writers) ≡ listRoom) ⌝ }
-    ensures { λ n. ⌜ (n ≤ listRoom → Listed (now (t .entry)) (now (eq .entry)) (now (succ .entry)) (now (pred .entry)) (now (q .entry)) k (min rows rowRoom) n (now (between .exit)) (now (readers .exit)) (now (writers .exit))) ⌝ }
-{
-    let m = least(rows, ROWS);
-    let mut n: usize = 0;
-    let mut last_reader: u8 = 0;
-    let mut last_writer: u8 = 0;
-    let mut last: u32 = 0;
-    let mut all = true;
-    for j in 0..m {
-        let r = rows::row(q, j);
-        all = all & covered(t, r);
-        let b = late(k, pred, r.writer as usize, first_row(t, eq, succ, pred, r));
-        let twice = (r.reader == last_reader) & ((r.writer == last_writer) & (b == last));
-        n = enter(n, b, r, twice, between, readers, writers);
-        last_reader = r.reader;
-        last_writer = r.writer;
-        last = b;
-    }
-    if all { n } else { LIST + 1 }
-}
-
-// The same by the sets that have equal ranges: the number of entries, `LIST` where there may be more.
-pub fn list(
-    k: usize,
-    t: &[u8; COLUMNS],
-    events: usize,
-    succ: &[u32; SLOTS],
-    pred: &[u32; SLOTS],
-    q: &[u8; ROW_CELLS],
-    rows: usize,
-    between: &mut [u32; LIST],
-    readers: &mut [u8; LIST],
-    writers: &mut [u8; LIST],
-) -> usize
-    ensures { λ n. ⌜ Listed (now (t .entry)) (equalsIn (now (t .entry)) (min events slots)) (now (succ .entry)) (now (pred .entry)) (now (q .entry)) k (min rows rowRoom) n (now (between .exit)) (now (readers .exit)) (now (writers .exit)) ⌝ }
-{
-    let mut eq = [0u32; ACCESSES];
-    alike::equals(t, events, &mut eq);
-    let n = collect_first(k, t, &eq, succ, pred, q, rows, between, readers, writers);
-    if n <= LIST {
-        return n;
-    }
-    collect(k, t, &eq, succ, pred, q, rows, between, readers, writers)
 }
 
 // All bars of the tables' first events and rows, besides those that there are.

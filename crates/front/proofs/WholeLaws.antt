@@ -12,7 +12,7 @@ use Rattle.answer.specs.declared.Rule.{Rule}
 use Rattle.answer.specs.declared.Rule.the-variants.{Kept, Breach}
 use Rattle.answer.specs.Rules.{_also_}
 use Rattle.torn.specs.Torn.{rule25In}
-use Rattle.rules.specs.Rules.{rule21In, rule22In, rule23In, rule24In, ruleIn}
+use Rattle.rules.specs.Rules.{rule21In, rule22In, rule23In, rule24In, restIn, ruleIn}
 use Rattle.front.specs.Tabled.{Tabled, Rowed, Seen, hbOf, Turned, foundOf}
 use Rattle.front.proofs.RuledLaws.{ruled21, ruled22, ruled23, ruled24}
 use Rattle.front.proofs.TornLaws.{ruled25}
@@ -29,7 +29,7 @@ then-by a b f g p q = found-also a b ∙ ap (λ (o : Option Fault). o else found
 module _ (x : Execution) (t : List ℕ) (n : ℕ) (tb : Tabled x t n) (q : List ℕ) (m : ℕ) (rowed : Rowed x q m) (seen : Seen x q m)
     (succ pred : List ℕ) (turned : Turned succ pred) (so : Sound x) where
   pub ruled : foundOf (ruleIn t n succ pred q m) ≡ fault x (hbOf succ)
-  unfolding ruleIn fault
+  unfolding ruleIn restIn fault
   ruled =
       then-by (rule21In q m) _ (fault21 x) _ (ruled21 x q m rowed seen)
       (then-by (rule22In succ n) _ (fault22 x (hbOf succ)) _ (ruled22 x n (tb .count) succ)

@@ -1,24 +1,31 @@
 -- The laws of specs/Prepared.antt. Assumes nothing.
 --     ruled-bytes, ruled-found     how the code's answers are made: by 21, and by happens-before
+--     readied-bytes, -clean, -rest     the same with the list: by 21, where one pass found nothing, by the rules one after another
 --     ruled-unique                 two conforming results are equal: happens-before and the rule, and the masks where none is broken
 use mathlib.Core.Path.{_≡_, refl, sym, ap, _∙_}
 use mathlib.Core.Bool.{Bool, true, false, false≢true}
 use mathlib.Core.List.{List}
-use Prim.Native.Nat.{ℕ, min}
+use Prim.Native.Nat.{ℕ, _<_, min}
+use native.Mathlib.Omega.{arith}
 use lib.ListN.{replicate}
 use Rattle.entries.specs.declared.Counts.{Counts}
 use Rattle.sets.specs.Mask.{slots}
 use Rattle.answer.specs.declared.Names.{Names}
 use Rattle.answer.specs.declared.Rule.{Rule}
 use Rattle.answer.specs.declared.Rule.the-variants.{Kept, Breach}
-use Rattle.answer.proofs.RulesLaws.{also-here}
+use Rattle.answer.proofs.RulesLaws.{also-here, also-later}
 use Rattle.tables.specs.Tables.{rowRoom, pairRoom, pairCells}
 use Rattle.lay.specs.Lay.{pairsPut}
 use Rattle.before.specs.Before.{ClosedSteps}
 use Rattle.before.proofs.BeforeLaws.{closed-steps-unique}
 use Rattle.before.proofs.ExistsLaws.{steps-exist}
-use Rattle.rules.specs.Rules.{rule21In, ruleIn}
-use Rattle.prepare.specs.Prepared.{Ruled}
+use Rattle.rules.specs.Rules.{rule21In, restIn, ruleIn}
+use Rattle.alike.specs.Ranges.{equalsIn}
+use Rattle.bars.specs.Listed.{listRoom, Listed}
+use Rattle.sift.specs.declared.Sifted.{Sifted}
+use Rattle.sift.specs.Sieve.{Sieve}
+use Rattle.prepare.specs.declared.Found.{Found}
+use Rattle.prepare.specs.Prepared.{Ruled, Readied}
 
 -- a broken rule is none that is kept
 whole : Rule → Bool
@@ -45,6 +52,23 @@ module _ (s : List ℕ) (x : Counts) (t q succ pred : List ℕ) where
       → ClosedSteps t (min (x .events) slots) q (min (x .rows) rowRoom) p (min (x .pairs) pairRoom) succ succ′ pred pred′ → {r : Rule}
       → r ≡ ruleIn t (min (x .events) slots) succ′ pred′ q (min (x .rows) rowRoom) → Ruled s x t q succ succ′ pred pred′ r
   ruled-found {p} e {succ′} {pred′} o h = record { p = p; pairs = e; after = succ′; before = pred′; ordered = o; says = h; left = λ k. (refl, refl) }
+
+  pub readied-bytes : {n : ℕ} {names : Names} {rule : Rule} → rule ≡ rule21In q (min (x .rows) rowRoom) → rule ≡ Breach n names
+      → {succ′ pred′ between readers writers : List ℕ} → Readied s x t q succ succ′ pred pred′ (record { rule = Breach n names; count = listRoom }) between readers writers
+  readied-bytes e h = record { ruled = ruled-bytes e h; listed = λ k. absurd (breach-kept k) }
+
+  module _ {p : List ℕ} (e : p ≡ table) {succ′ pred′ : List ℕ}
+      (o : ClosedSteps t (min (x .events) slots) q (min (x .rows) rowRoom) p (min (x .pairs) pairRoom) succ succ′ pred pred′)
+      {rule : Rule} (kept : rule ≡ rule21In q (min (x .rows) rowRoom)) (is : rule ≡ Kept) {between readers writers : List ℕ} where
+    pub readied-clean : {r : Sifted} → Sieve t (min (x .events) slots) succ′ pred′ q (x .inits) (min (x .rows) rowRoom) r between readers writers → r .clean ≡ true
+        → Readied s x t q succ succ′ pred pred′ (record { rule = Kept; count = r .count }) between readers writers
+    unfolding ruleIn
+    readied-clean f h = record { ruled = ruled-found e o (also-later (sym is ∙ kept) (sym (f .kept h))); listed = λ k l. f .listed h }
+
+    pub readied-rest : {r : Rule} → r ≡ restIn t (min (x .events) slots) succ′ pred′ q (min (x .rows) rowRoom)
+        → Readied s x t q succ succ′ pred pred′ (record { rule = r; count = listRoom }) between readers writers
+    unfolding ruleIn
+    readied-rest h = record { ruled = ruled-found e o (also-later (sym is ∙ kept) h); listed = λ k l. absurd (omega (arith, l)) }
 
 pub record Same {s : List ℕ} {x : Counts} {t q succ succ′ pred pred′ next prior : List ℕ} {r a : Rule} (w : Ruled s x t q succ succ′ pred pred′ r)
     (z : Ruled s x t q succ next pred prior a) : Type 0 where

@@ -1,10 +1,11 @@
 -- What is found of tables, whatever they hold. Laws: proofs/PreparedLaws.antt. Who cites it: weigh/proofs/WeighedLaws, log_check/proofs/CheckedLaws.
 --     Ruled s x t q succ succ′ ..     the happens-before of these tables and of the sheet's pairs, and the first broken rule of 21 to 25, among so many
 --                                     events and rows as the counts say and have a place; the masks are left where none is broken
+--     Readied s x t q ..              the same; and where none is broken and the count is below `listRoom`, a list of so many entries of what the rows bar
 -- Assumes nothing.
 use mathlib.Core.Path.{_≡_}
 use mathlib.Core.List.{List}
-use Prim.Native.Nat.{ℕ, min}
+use Prim.Native.Nat.{ℕ, _<_, min}
 use lib.ListN.{replicate}
 use Rattle.entries.specs.declared.Counts.{Counts}
 use Rattle.sets.specs.Mask.{slots}
@@ -14,6 +15,9 @@ use Rattle.tables.specs.Tables.{rowRoom, pairRoom, pairCells}
 use Rattle.lay.specs.Lay.{pairsPut}
 use Rattle.before.specs.Before.{ClosedSteps}
 use Rattle.rules.specs.Rules.{ruleIn}
+use Rattle.alike.specs.Ranges.{equalsIn}
+use Rattle.bars.specs.Listed.{listRoom, Listed}
+use Rattle.prepare.specs.declared.Found.{Found}
 
 pub record Ruled (s : List ℕ) (x : Counts) (t q succ succ′ pred pred′ : List ℕ) (r : Rule) : Type 0 where
   pub p : List ℕ
@@ -23,3 +27,8 @@ pub record Ruled (s : List ℕ) (x : Counts) (t q succ succ′ pred pred′ : Li
   pub ordered : ClosedSteps t (min (x .events) slots) q (min (x .rows) rowRoom) p (min (x .pairs) pairRoom) succ after pred before
   pub says : r ≡ ruleIn t (min (x .events) slots) after before q (min (x .rows) rowRoom)
   pub left : r ≡ Kept → (succ′ ≡ after) × (pred′ ≡ before)
+
+pub record Readied (s : List ℕ) (x : Counts) (t q succ succ′ pred pred′ : List ℕ) (r : Found) (between readers writers : List ℕ) : Type 0 where
+  pub ruled : Ruled s x t q succ succ′ pred pred′ (r .rule)
+  pub listed : r .rule ≡ Kept → r .count < listRoom
+      → Listed t (equalsIn t (min (x .events) slots)) succ′ pred′ q (x .inits) (min (x .rows) rowRoom) (r .count) between readers writers

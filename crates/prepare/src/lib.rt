@@ -1,15 +1,76 @@
 // What is found before an order is sought or a list is held against the sheet: happens-before is made of tables, and the rules 21 to 25 are tried, 21
-// first, which asks for none. Total: nothing is asked of the sheet, the counts, the places or the tables. The judge and the check call this one
-// function: each step in it then has one caller, and the compiler puts it in place.
+// first, which asks for none; mostly none is broken, and one pass over the rows tells so and lists the bars by the way. Total: nothing is asked of the
+// sheet, the counts, the places or the tables. The judge and the check call this one function: each step in it then has one caller, and the compiler
+// puts it in place.
 use answer::Rule;
+use bars::LIST;
 use entries::Counts;
 use sets::SLOTS;
 use tables::COLUMNS;
 use tables::PAIR_CELLS;
 use tables::ROW_CELLS;
-ghost use Rattle.prepare.specs.Prepared.{Ruled};
+ghost use Rattle.prepare.specs.Prepared.{Ruled, Readied};
 
-// The first broken rule; where none is, happens-before by rows and by columns is left in what was lent.
+// The first broken rule; where there is none, how many bars are listed, `LIST` where the list is not all.
+pub struct Found {
+    pub rule: Rule,
+    pub count: usize,
+}
+
+// The first broken rule; where none is, happens-before by rows and by columns is left in what was lent, and a list of bars.
+pub fn ready(
+    s: &[u8],
+    x: Counts,
+    t: &[u8; COLUMNS],
+    q: &[u8; ROW_CELLS],
+    succ: &mut [u32; SLOTS],
+    pred: &mut [u32; SLOTS],
+    between: &mut [u32; LIST],
+    readers: &mut [u8; LIST],
+    writers: &mut [u8; LIST],
+) -> Found
+    ensures { λ r. ⌜ Readied (now (s .entry)) x (now (t .entry)) (now (q .entry)) (now (succ .entry)) (now (succ .exit)) (now (pred .entry)) (now (pred .exit)) r (now (between .exit)) (now (readers .exit)) (now (writers .exit)) ⌝ }
+{
+    let inits = x.inits as usize;
+    let events = x.events as usize;
+    let rows = x.rows as usize;
+    let pairs = x.pairs as usize;
+    let bytes = rules::bytes(q, rows);
+    if let Rule::Breach(n, names) = bytes {
+        return Found {
+            rule: Rule::Breach(n, names),
+            count: LIST,
+        };
+    }
+    let mut p = [0u8; PAIR_CELLS];
+    lay::pairs(s, x, &mut p);
+    before::fill(t, events, q, rows, &p, pairs, succ, pred);
+    let sifted = sift::sift(
+        inits,
+        t,
+        events,
+        succ,
+        pred,
+        q,
+        rows,
+        between,
+        readers,
+        writers,
+    );
+    if sifted.clean {
+        return Found {
+            rule: Rule::Kept,
+            count: sifted.count,
+        };
+    }
+    let rule = rules::rest(t, events, succ, pred, q, rows);
+    Found {
+        rule: rule,
+        count: LIST,
+    }
+}
+
+// The same, and the list is not asked for.
 pub fn rule(
     s: &[u8],
     x: Counts,
@@ -20,15 +81,19 @@ pub fn rule(
 ) -> Rule
     ensures { λ r. ⌜ Ruled (now (s .entry)) x (now (t .entry)) (now (q .entry)) (now (succ .entry)) (now (succ .exit)) (now (pred .entry)) (now (pred .exit)) r ⌝ }
 {
-    let events = x.events as usize;
-    let rows = x.rows as usize;
-    let pairs = x.pairs as usize;
-    let bytes = rules::bytes(q, rows);
-    if let Rule::Breach(n, names) = bytes {
-        return Rule::Breach(n, names);
-    }
-    let mut p = [0u8; PAIR_CELLS];
-    lay::pairs(s, x, &mut p);
-    before::fill(t, events, q, rows, &p, pairs, succ, pred);
-    rules::first_broken(t, events, succ, pred, q, rows)
+    let mut between = [0u32; LIST];
+    let mut readers = [0u8; LIST];
+    let mut writers = [0u8; LIST];
+    let found = ready(
+        s,
+        x,
+        t,
+        q,
+        succ,
+        pred,
+        &mut between,
+        &mut readers,
+        &mut writers,
+    );
+    found.rule
 }

@@ -1,7 +1,7 @@
 -- The laws of specs/steps/Stirred.antt, and what the rules find where nothing was noticed. Assumes nothing.
 --     differ-marks                 two bytes that differ
 --     stirred-marks                a row that is stirred
---     rule21-kept, rule21-broken   what 21 finds where nothing was noticed, and where something was
+--     rule21-kept                  what 21 finds where nothing was noticed
 --     rule23-kept, rule24-kept     what 23 and 24 find where no row is stirred
 --     by-sources                   25, by the masks that were filled
 use mathlib.Core.Path.{_≡_, sym, ap, _∙_}
@@ -10,20 +10,16 @@ use mathlib.Core.List.{List}
 use Prim.Native.Nat.{ℕ, _+_, _*_, _%_, _≤_, _<_}
 use native.Mathlib.Nat.{mod-eq-of-lt}
 use native.Mathlib.Omega.{arith}
-use native.Mathlib.Decide.{ℕ-discrete, decLt}
+use native.Mathlib.Decide.{ℕ-discrete}
 use borrow.Author.Tests.{le-ltb}
 use lib.Bits.{bitAnd, bitXor, xor-add-and, xor-self, and-le-l, and-le-r}
 use lib.ListN.{length, getD, replicate}
 use Rattle.basis.proofs.BoolLaws.{false-of, not-both-ways, and-both, both-hold, amp-and}
-use Rattle.answer.specs.declared.Names.the-variants.{Row as OfRow}
-use Rattle.answer.specs.declared.Rule.{Rule}
-use Rattle.answer.specs.declared.Rule.the-variants.{Kept, Breach}
-use Rattle.answer.specs.Rules.{_also_}
-use Rattle.answer.proofs.RulesLaws.{named-yes, also-here}
+use Rattle.answer.specs.declared.Rule.the-variants.{Kept}
 use Rattle.sets.specs.Mask.{slots, mem, Has}
 use Rattle.sets.proofs.MaskLaws.{mem-and, mem-empty}
 use Rattle.cells.specs.First.{firstOf}
-use Rattle.cells.proofs.FirstLaws.{first-of, first-past}
+use Rattle.cells.proofs.FirstLaws.{first-past}
 use Rattle.tables.specs.Tables.{accesses, rowRoom, writesIn, rowIn, seenIn, wroteIn}
 use Rattle.torn.specs.Torn.{sourcesIn, namedIn, rule25In}
 use Rattle.torn.specs.steps.Noticed.{Marks}
@@ -52,17 +48,6 @@ differ-marks q j a b h p r =
 module _ (q : List ℕ) (n : ℕ) where
   pub rule21-kept : (Unlike q n → ⊥) → Kept ≡ rule21In q n
   rule21-kept never = rule21-no n n (omega arith) q (first-past (unlikeIn q) n n (omega arith) (λ j h. false-of _ (λ y. never (record { at = j; inside = h; holds = y }))))
-
-  pub rule21-broken : (b : Rule) → Unlike q n → rule21In q n ≡ (rule21In q n also b)
-  unfolding rule21In
-  rule21-broken b u =
-      let j = firstOf (unlikeIn q) n in
-      let is = named-yes j n (Breach 21 (OfRow (rowIn q j .reader) (rowIn q j .writer) (rowIn q j .address))) (found (decLt j n)) in
-      sym is ∙ also-here b is
-    where
-      found : Dec (firstOf (unlikeIn q) n < n) → firstOf (unlikeIn q) n < n
-      found (yes h) = h
-      found (no h) = absurd (not-both-ways (u .holds) (first-of (unlikeIn q) n .least (u .at) (let l = u .inside in omega (arith, h))))
 
 -- ---- 23, 24
 

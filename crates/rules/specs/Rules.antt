@@ -5,7 +5,8 @@
 --     betweenIn t succ pred r v     24: the event v writes the row's byte between W and R
 --     overIn t q succ pred j        24: row j has such an event
 --     rule21In .. rule24In          each at the first row or event that breaks it
---     ruleIn                        the first rule that is broken, and whom it names
+--     restIn                        the first rule of 22 to 25 that is broken, and whom it names
+--     ruleIn                        the first of 21 to 25
 -- Assumes nothing.
 use mathlib.Core.Bool.{Bool}
 use mathlib.Core.List.{List}
@@ -59,10 +60,12 @@ rule24In t q n succ pred =
     let j = firstOf (overIn t q succ pred) n in
     named j n (Breach 24 (Between (rowIn q j .reader) (rowIn q j .writer) (firstOf (betweenIn t succ pred (rowIn q j)) slots) (rowIn q j .address)))
 
-unfoldable pub ruleIn : List ℕ → ℕ → List ℕ → List ℕ → List ℕ → ℕ → Rule
-ruleIn t n succ pred q rows =
-    rule21In q rows
-    also rule22In succ n
+unfoldable pub restIn : List ℕ → ℕ → List ℕ → List ℕ → List ℕ → ℕ → Rule
+restIn t n succ pred q rows =
+    rule22In succ n
     also rule23In q rows succ
     also rule24In t q rows succ pred
     also rule25In t n q rows
+
+unfoldable pub ruleIn : List ℕ → ℕ → List ℕ → List ℕ → List ℕ → ℕ → Rule
+ruleIn t n succ pred q rows = rule21In q rows also restIn t n succ pred q rows

@@ -16,9 +16,10 @@ ghost use Rattle.sets.specs.Tells.{Tells};
 ghost use Rattle.sets.specs.Mask.{slots, mem};
 ghost use Rattle.cells.specs.First.{firstOf};
 ghost use Rattle.tables.specs.Tables.{rowRoom, writesIn};
-ghost use Rattle.rules.specs.Rules.{unlikeIn, cyclicIn, turnedIn, betweenIn, overIn, rule21In, rule22In, rule23In, rule24In, ruleIn};
+ghost use Rattle.torn.specs.Torn.{sourcesIn, rule25In};
+ghost use Rattle.rules.specs.Rules.{unlikeIn, cyclicIn, turnedIn, betweenIn, overIn, rule21In, rule22In, rule23In, rule24In, restIn, ruleIn};
 ghost use Rattle.rules.specs.steps.Cover.{nearRoom, Covered, farOf, Covering, mayWriteIn};
-ghost use Rattle.rules.specs.steps.Stirred.{Unlike, stirredIn, Surveyed};
+ghost use Rattle.rules.specs.steps.Stirred.{Unlike, stirredIn};
 
 // The flat bytes of which it is known who writes them; and eight more, so that an access that begins among them ends within.
 const NEAR: usize = 64;
@@ -203,29 +204,6 @@ pub fn stirred(
     sets::only(sets::has(succ[e], w), 1) | (succ[w] & pred[e] & may_write(far, bytes, r.address))
 }
 
-// Is something amiss with a row, of the first n? The masks of 25 are filled by the way.
-fn survey(
-    t: &[u8; COLUMNS],
-    q: &[u8; ROW_CELLS],
-    n: usize,
-    succ: &[u32; SLOTS],
-    pred: &[u32; SLOTS],
-    far: u32,
-    bytes: &[u32; BYTES],
-    masks: &mut [u32; ACCESSES],
-) -> bool
-    ensures { λ r. ⌜ Surveyed (now (t .entry)) (now (q .entry)) (min n rowRoom) (now (succ .entry)) (now (pred .entry)) far (now (bytes .entry)) (now (masks .entry)) (now (masks .exit)) r ⌝ }
-{
-    let m = least(n, ROWS);
-    let mut c = 0;
-    for j in 0..m {
-        let r = rows::row(q, j);
-        c = c | stirred(r, succ, pred, far, bytes);
-        torn::note_row(t, r, masks);
-    }
-    c != 0
-}
-
 // ---- the first that is broken
 
 fn rule21(q: &[u8; ROW_CELLS], n: usize) -> Rule
@@ -288,7 +266,51 @@ pub fn bytes(q: &[u8; ROW_CELLS], n: usize) -> Rule
     Rule::Kept
 }
 
-// The first rule of 21 to 25 that is broken, each tested over all rows before the next. Where nothing of 23 and 24 was noticed, they are not tested.
+// The masks gain the sources that 25 asks for, of the first n rows.
+fn sources(t: &[u8; COLUMNS], q: &[u8; ROW_CELLS], n: usize, masks: &mut [u32; ACCESSES])
+    ensures { λ _. ⌜ now (masks .exit) ≡ sourcesIn (now (t .entry)) (now (q .entry)) (min n rowRoom) (now (masks .entry)) ⌝ }
+{
+    let m = least(n, ROWS);
+    for j in 0..m {
+        torn::note_row(t, rows::row(q, j), masks);
+    }
+}
+
+fn rule25(t: &[u8; COLUMNS], events: usize, q: &[u8; ROW_CELLS], rows: usize) -> Rule
+    ensures { λ r. ⌜ r ≡ rule25In (now (t .entry)) (min events slots) (now (q .entry)) (min rows rowRoom) ⌝ }
+{
+    let mut masks = [0u32; ACCESSES];
+    sources(t, q, rows, &mut masks);
+    torn::named(&masks, events)
+}
+
+// The first rule of 22 to 25 that is broken, each tested over all rows before the next.
+pub fn rest(
+    t: &[u8; COLUMNS],
+    events: usize,
+    succ: &[u32; SLOTS],
+    pred: &[u32; SLOTS],
+    q: &[u8; ROW_CELLS],
+    rows: usize,
+) -> Rule
+    ensures { λ r. ⌜ r ≡ restIn (now (t .entry)) (min events slots) (now (succ .entry)) (now (pred .entry)) (now (q .entry)) (min rows rowRoom) ⌝ }
+{
+    let b = rule22(succ, events);
+    if let Rule::Breach(n, names) = b {
+        return Rule::Breach(n, names);
+    }
+    let c = rule23(q, rows, succ);
+    if let Rule::Breach(n, names) = c {
+        return Rule::Breach(n, names);
+    }
+    let d = rule24(t, q, rows, succ, pred);
+    if let Rule::Breach(n, names) = d {
+        return Rule::Breach(n, names);
+    }
+    rule25(t, events, q, rows)
+}
+
+// The first of 21 to 25.
 pub fn first_broken(
     t: &[u8; COLUMNS],
     events: usize,
@@ -299,26 +321,9 @@ pub fn first_broken(
 ) -> Rule
     ensures { λ r. ⌜ r ≡ ruleIn (now (t .entry)) (min events slots) (now (succ .entry)) (now (pred .entry)) (now (q .entry)) (min rows rowRoom) ⌝ }
 {
-    if differ(q, rows) {
-        return rule21(q, rows);
-    }
-    let b = rule22(succ, events);
-    if let Rule::Breach(n, names) = b {
+    let a = bytes(q, rows);
+    if let Rule::Breach(n, names) = a {
         return Rule::Breach(n, names);
     }
-    let mut bytes = [0u32; BYTES];
-    let far = covering(t, events, &mut bytes);
-    let mut masks = [0u32; ACCESSES];
-    if !survey(t, q, rows, succ, pred, far, &bytes, &mut masks) {
-        return torn::named(&masks, events);
-    }
-    let c = rule23(q, rows, succ);
-    if let Rule::Breach(n, names) = c {
-        return Rule::Breach(n, names);
-    }
-    let d = rule24(t, q, rows, succ, pred);
-    if let Rule::Breach(n, names) = d {
-        return Rule::Breach(n, names);
-    }
-    torn::named(&masks, events)
+    rest(t, events, succ, pred, q, rows)
 }

@@ -41,7 +41,7 @@ use Rattle.torn.specs.steps.Doubled.{Twice, Doubled}
 use Rattle.torn.proofs.NoticedLaws.{or-nothing}
 use Rattle.torn.proofs.TornLaws.{row-gains, row-keeps, sources-none, sources-length, sources-more}
 use Rattle.torn.proofs.DoubledLaws.{not-doubled}
-use Rattle.rules.specs.Rules.{cyclicIn, rule22In}
+use Rattle.rules.specs.Rules.{cyclicIn, rule22In, restIn}
 use Rattle.rules.specs.steps.Cover.{nearRoom, Covering}
 use Rattle.rules.specs.steps.Stirred.{Stirred}
 use Rattle.rules.proofs.RulesLaws.{rule22-no}
@@ -49,7 +49,6 @@ use Rattle.rules.proofs.StirredLaws.{rule23-kept, rule24-kept}
 use Rattle.bars.specs.steps.Covered.{coveredIn}
 use Rattle.bars.proofs.CoveredLaws.{covered-reader, covered-writer}
 use Rattle.sift.specs.Clean.{wholeIn, runOf, lastIn, runIn, RowAmiss, AmissAt, Clean}
-use Rattle.sift.specs.Sieve.{restOf}
 use Rattle.sift.specs.steps.Firsts.{Agrees}
 
 -- ---- what is noticed
@@ -248,8 +247,8 @@ module _ (t succ pred : List ℕ) (far : ℕ) (l q : List ℕ) where
         fails = λ h c. by-bool a (λ y. by-bool b (λ w. by-bool (eqb x 0) (λ z. not-both-ways ((λ i. y i && (w i && z i))) h) (λ z. c .uncyclic (own .some (eqb-false x 0 z)))) (λ w. alone .fails w (c .lone))) (λ y. rows .fails y (c .still));
       }
 
-  pub clean-kept : (n m : ℕ) (z : List ℕ) → n ≤ slots → m ≤ rowRoom → nearRoom ≤ length z → Covering t n n z l far → Clean t succ pred far l q m → restOf t n succ pred q m ≡ Kept
-  unfolding restOf rule25In
+  pub clean-kept : (n m : ℕ) (z : List ℕ) → n ≤ slots → m ≤ rowRoom → nearRoom ≤ length z → Covering t n n z l far → Clean t succ pred far l q m → restIn t n succ pred q m ≡ Kept
+  unfolding restIn rule25In
   clean-kept n m z few room wide have c =
       let kept22 = rule22-no n n (omega arith) succ (first-past (cyclicIn succ) n n (omega arith) (λ e h. false-of _ (λ y. c .uncyclic (record { at = e; inside = omega arith; holds = y })))) in
       let never : Stirred q m succ pred far l → ⊥ = λ a. c .still (record { at = a .at; inside = a .inside; holds = inl (a .holds) }) in

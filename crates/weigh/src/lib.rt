@@ -1,12 +1,55 @@
-// Tables, weighed: crate `prepare` makes happens-before and tries the rules 21 to 25, and where none is broken the last step follows. Total: nothing
-// is asked of the sheet, the counts, the tables or the buffers.
+// Tables, weighed: crate `prepare` makes happens-before, tries the rules 21 to 25 and lists the bars, and where no rule is broken the last step follows.
+// Total: nothing is asked of the sheet, the counts, the tables or the buffers.
 use answer::Answer;
 use answer::Rule;
+use bars::LIST;
 use entries::Counts;
 use sets::SLOTS;
 use tables::COLUMNS;
 use tables::ROW_CELLS;
+ghost use Prim.Native.Nat.{_<_, min};
+ghost use Rattle.sets.specs.Mask.{slots};
+ghost use Rattle.tables.specs.Tables.{rowRoom};
+ghost use Rattle.alike.specs.Ranges.{equalsIn};
+ghost use Rattle.bars.specs.Listed.{listRoom, Listed};
+ghost use Rattle.arrange.specs.Arranged.{Arranged};
 ghost use Rattle.weigh.specs.Weighed.{Weighed};
+
+// The last step, by the list of bars where it has all, which is mostly little.
+fn last(
+    inits: usize,
+    events: usize,
+    rows: usize,
+    t: &[u8; COLUMNS],
+    q: &[u8; ROW_CELLS],
+    succ: &[u32; SLOTS],
+    pred: &[u32; SLOTS],
+    between: &[u32; LIST],
+    readers: &[u8; LIST],
+    writers: &[u8; LIST],
+    count: usize,
+    scratch: &mut [u8],
+    order: &mut [u8],
+) -> Answer
+    requires { ⌜ (count < listRoom → Listed (now t) (equalsIn (now t) (min events slots)) (now succ) (now pred) (now q) inits (min rows rowRoom) count (now between) (now readers) (now writers)) ⌝ }
+    ensures { λ r. ⌜ Arranged inits events rows (now (t .entry)) (now (q .entry)) (now (succ .entry)) (now (pred .entry)) (now (scratch .entry)) (now (order .entry)) r (now (scratch .exit)) (now (order .exit)) ⌝ }
+{
+    if count < LIST {
+        let found = orders::first_listed(
+            inits,
+            events,
+            pred,
+            between,
+            readers,
+            writers,
+            count,
+            scratch,
+            order,
+        );
+        return arrange::said(found, t, succ, events);
+    }
+    arrange::arrange(inits, events, rows, t, q, succ, pred, scratch, order)
+}
 
 // The answer on the tables of accesses and rows, and the sheet's pairs; where a rule is broken, the first `need` bytes of the scratch are cleared.
 pub fn weigh(
@@ -25,12 +68,41 @@ pub fn weigh(
     let rows = x.rows as usize;
     let mut succ = [0u32; SLOTS];
     let mut pred = [0u32; SLOTS];
-    let rule = prepare::rule(s, x, t, q, &mut succ, &mut pred);
+    let mut between = [0u32; LIST];
+    let mut readers = [0u8; LIST];
+    let mut writers = [0u8; LIST];
+    let found = prepare::ready(
+        s,
+        x,
+        t,
+        q,
+        &mut succ,
+        &mut pred,
+        &mut between,
+        &mut readers,
+        &mut writers,
+    );
+    let rule = found.rule;
+    let count = found.count;
     match rule {
         Rule::Breach(n, names) => {
             marks::clear(scratch, need);
             Answer::Broken(n, names)
         }
-        Rule::Kept => { arrange::arrange(inits, events, rows, t, q, &succ, &pred, scratch, order) }
+        Rule::Kept => last(
+            inits,
+            events,
+            rows,
+            t,
+            q,
+            &succ,
+            &pred,
+            &between,
+            &readers,
+            &writers,
+            count,
+            scratch,
+            order,
+        ),
     }
 }

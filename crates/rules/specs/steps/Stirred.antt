@@ -3,18 +3,15 @@
 --     Unlike q n                  21: one of the first n rows has two bytes that differ
 --     stirredIn .. r              not 0 where the row r turns R and W round, or has an event between the two that may write its byte
 --     Stirred q n ..              one of the first n rows has
---     Surveyed .. r               r tells whether it is so; and the masks have the sources that 25 asks for
 use mathlib.Core.Path.{_≡_}
-use mathlib.Core.Bool.{Bool, true, cond}
+use mathlib.Core.Bool.{true, cond}
 use mathlib.Core.List.{List}
 use Prim.Native.Nat.{ℕ, _%_}
 use lib.Bits.{bitAnd, bitOr}
 use lib.ListN.{getD}
 use Rattle.format.specs.declared.Row.{Row}
 use Rattle.sets.specs.Mask.{slots, mem}
-use Rattle.sets.specs.Tells.{Tells}
 use Rattle.tables.specs.Tables.{rowIn}
-use Rattle.torn.specs.Torn.{sourcesIn}
 use Rattle.torn.specs.steps.Noticed.{Among}
 use Rattle.rules.specs.Rules.{unlikeIn}
 use Rattle.rules.specs.steps.Cover.{mayWriteIn}
@@ -29,7 +26,3 @@ stirredIn succ pred far l r =
 
 abbrev pub Stirred : List ℕ → ℕ → List ℕ → List ℕ → ℕ → List ℕ → Type 0
 Stirred q n succ pred far l = Among n (λ (j : ℕ). stirredIn succ pred far l (rowIn q j) ≡ 0 → ⊥)
-
-pub record Surveyed (t q : List ℕ) (n : ℕ) (succ pred : List ℕ) (far : ℕ) (l masks masks′ : List ℕ) (r : Bool) : Type 0 where
-  pub tells : Tells r (Stirred q n succ pred far l)
-  pub sources : masks′ ≡ sourcesIn t q n masks

@@ -13,8 +13,8 @@ cast-events c = search needs
 cast-rows : tie.Need-cast-rows
 cast-rows c = search needs
 
-rule-requires : tie.Need-rule-requires
-rule-requires c κs = search needs
+ready-requires : tie.Need-ready-requires
+ready-requires c κs = search needs
 
 enum-known-rule : tie.Need-enum-known-rule
 enum-known-rule c = search needs
@@ -25,14 +25,14 @@ clear-requires c κs = search needs
 enum-told : tie.Need-enum-told
 enum-told c = search needs
 
-arrange-requires : tie.Need-arrange-requires
-arrange-requires c κs = search needs
+last-requires : tie.Need-last-requires
+last-requires c κs = c .before .before .before .before .before .before .before .before .before .ready .ensures .listed (c .before .before .before .before .before .before .before .enum-told .given .1)
 
 same-length : tie.Need-same-length
 same-length c = search needs
 
 returns : tie.Need-returns
-returns c = weighed-broken (c .before .before .before .before .before .before .before .rule .ensures) (c .before .before .before .before .before .rule2 .given .1) (c .before .before .clear .ensures)
+returns c = weighed-broken (c .before .before .before .before .before .before .before .ready .ensures .ruled) (c .before .before .before .before .before .rule .given .1) (c .before .before .clear .ensures)
 
 same-length-2 : tie.Need-same-length-2
 same-length-2 c = search needs
@@ -41,7 +41,7 @@ same-length-3 : tie.Need-same-length-3
 same-length-3 c = search needs
 
 returns-2 : tie.Need-returns-2
-returns-2 c = weighed-kept (c .before .before .before .before .before .before .before .before .before .before .before .rule .ensures) (c .before .before .before .before .before .before .before .before .before .enum-told .given .1) (c .before .before .before .before .arrange .ensures)
+returns-2 c = weighed-kept (c .before .before .before .before .before .before .before .before .before .before .before .before .before .before .ready .ensures .ruled) (c .before .before .before .before .before .before .before .before .before .before .before .before .enum-told .given .1) (c .before .before .before .before .last .ensures)
 
 pub weigh-spec : {M : Type 1} → statement M
 weigh-spec =
@@ -50,11 +50,11 @@ weigh-spec =
     cast-inits
     cast-events
     cast-rows
-    rule-requires
+    ready-requires
     enum-known-rule
     clear-requires
     enum-told
-    arrange-requires
+    last-requires
     same-length
     returns
     same-length-2

@@ -22,7 +22,7 @@ ghost use Rattle.bars.specs.Bars.{reasonsIn, maskIn, barsIn, filledIn};
 pub const LIST: usize = 32;
 
 // (a), (b) and (c) together, of the reader's access a and the writer's b.
-pub fn reasons(a: Shape, b: Shape, as_a: u32, as_b: u32, wr: bool, before: u32, after: u32) -> u32
+fn reasons(a: Shape, b: Shape, as_a: u32, as_b: u32, wr: bool, before: u32, after: u32) -> u32
     ensures { λ r. ⌜ r ≡ reasonsIn a b as_a as_b wr before after ⌝ }
 {
     let x = sets::only(ranges::both_sc(b, a), as_a);

@@ -158,12 +158,12 @@ module _ (far : ℕ) (l : List ℕ) (a : ℕ) where
   unfolding mayWriteIn
   may-beyond h = sym (ap (λ (b : Bool). cond b (bitOr far (getD l a 0)) (full slots)) (le-ltb a nearRoom h))
 
-covers-parts : (s : Shape) (a : ℕ) → covers s a ≡ true → (s .start ≤ a) × (a < s .start + s .width)
+pub covers-parts : (s : Shape) (a : ℕ) → covers s a ≡ true → (s .start ≤ a) × (a < s .start + s .width)
 unfolding covers
 covers-parts s a h = let w = and-both (leb (s .start) a) (ltb a (s .start + s .width)) h in (leb-true (s .start) a (w .0), ltb-true a (s .start + s .width) (w .1))
 
 -- an event without a second access writes by its first
-by-first : (t : List ℕ) (v a : ℕ) → shapeIn t (2 * v + 1) .width ≡ 0 → writesIn t v a ≡ true → (covers (shapeIn t (2 * v)) a ≡ true) × (writes (shapeIn t (2 * v)) ≡ true)
+pub by-first : (t : List ℕ) (v a : ℕ) → shapeIn t (2 * v + 1) .width ≡ 0 → writesIn t v a ≡ true → (covers (shapeIn t (2 * v)) a ≡ true) × (writes (shapeIn t (2 * v)) ≡ true)
 unfolding writesIn
 by-first t v a none h =
     let w = and-both (covers (atIn t v a) a) (writes (atIn t v a)) h in

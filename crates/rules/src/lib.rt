@@ -24,7 +24,7 @@ ghost use Rattle.rules.specs.steps.Stirred.{Unlike, stirredIn};
 // The flat bytes of which it is known who writes them; and eight more, so that an access that begins among them ends within.
 const NEAR: usize = 64;
 
-pub const BYTES: usize = 72;
+const BYTES: usize = 72;
 
 // ---- 21, 22, 23
 
@@ -163,7 +163,7 @@ fn is_far(a: Shape, b: Shape) -> bool
 }
 
 // For each of the first bytes the events below n whose first access writes it; the answer has those of which more is to be known, and all from n on.
-pub fn covering(t: &[u8; COLUMNS], n: usize, bytes: &mut [u32; BYTES]) -> u32
+fn covering(t: &[u8; COLUMNS], n: usize, bytes: &mut [u32; BYTES]) -> u32
     ensures { λ r. ⌜ Covering (now (t .entry)) (min n slots) (min n slots) (now (bytes .entry)) (now (bytes .exit)) r ⌝ }
 {
     let m = least(n, SLOTS);
@@ -190,13 +190,7 @@ fn may_write(far: u32, bytes: &[u32; BYTES], a: u8) -> u32
 }
 
 // What may be amiss with a row: 23, its reader happens before its writer; 24, what lies between the two and may write its byte.
-pub fn stirred(
-    r: Row,
-    succ: &[u32; SLOTS],
-    pred: &[u32; SLOTS],
-    far: u32,
-    bytes: &[u32; BYTES],
-) -> u32
+fn stirred(r: Row, succ: &[u32; SLOTS], pred: &[u32; SLOTS], far: u32, bytes: &[u32; BYTES]) -> u32
     ensures { λ x. ⌜ x ≡ stirredIn (now (succ .entry)) (now (pred .entry)) far (now (bytes .entry)) r ⌝ }
 {
     let e = r.reader as usize % SLOTS;

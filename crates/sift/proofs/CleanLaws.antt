@@ -1,8 +1,8 @@
 -- The laws of specs/Clean.antt, and what follows for the rules 22 to 25. Assumes nothing.
---     marks-or, marks-bare, marks-below, marks-cyclic     what is noticed, joined; each part of it
+--     marks-or, marks-number, marks-bare, marks-below, marks-cyclic     what is noticed, joined; each part of it
 --     last-more, run-more, amiss-at     row by row
 --     marks-clean                  a flag that nothing was noticed
---     row-covered, agree-reader, agree-writer     a row that is not amiss; its sets of equal ranges
+--     row-covered                  a row that is not amiss
 --     Unmixed, unmixed             the sources that 25 asks for, where no row is amiss
 --     clean-tells                  the flag of the whole
 --     clean-kept                   clean tables break no rule of 22 to 25
@@ -10,29 +10,30 @@ use mathlib.Core.Path.{_≡_, refl, sym, ap, ap₂, _∙_, subst}
 use mathlib.Core.Bool.{Bool, true, false, cond, not, _&&_}
 use mathlib.Core.Logic.{_⊎_, inl, inr}
 use mathlib.Core.List.{List}
-use Prim.Native.Nat.{ℕ, zero, suc, _+_, _*_, _%_, _≤_, _<_}
+use Prim.Native.Nat.{ℕ, zero, suc, _+_, _*_, _%_, _≤_, _<_, min}
 use native.Mathlib.Numerals.{add-one}
 use native.Mathlib.Nat.{mod-eq-of-lt}
 use native.Mathlib.Omega.{arith}
 use native.Mathlib.Decide.{ℕ-discrete, decLt}
-use borrow.Author.Tests.{eq-eqb, ne-eqb, eqb-true, eqb-false, ltb-true, lt-ltb}
+use borrow.Author.Tests.{eq-eqb, ne-eqb, eqb-true, eqb-false, ltb-true, ltb-false, lt-ltb, le-ltb, le-leb}
 use lib.Bits.{bitAnd, bitOr, or-zero-l}
-use lib.Dec.{eqb, ltb}
+use lib.Dec.{eqb, ltb, leb}
 use lib.ListN.{length, getD, set, replicate, length-replicate, getD-replicate}
 use lib.Seq.{getD-set-same, getD-set-other}
-use Rattle.basis.specs.Test.{_and_}
-use Rattle.basis.proofs.BoolLaws.{by-bool, not-both-ways, false-of, amp-and, and-both, and-parts, both-hold}
+use Rattle.basis.specs.Test.{_and_, _or_}
+use Rattle.basis.proofs.BoolLaws.{by-bool, not-both-ways, false-of, amp-and, bar-or, and-both, and-parts, both-hold, or-holds, or-second}
 use Rattle.format.specs.declared.Row.{Row}
 use Rattle.format.specs.declared.Shape.{Shape}
-use Rattle.format.specs.Shape.{tearFree, equal, covers}
+use Rattle.format.specs.Shape.{writes, tearFree, equal}
 use Rattle.answer.specs.declared.Rule.the-variants.{Kept}
 use Rattle.answer.proofs.RulesLaws.{also-later}
 use Rattle.sets.specs.Mask.{slots, mem, Has, insert}
 use Rattle.sets.specs.Tells.{Tells}
-use Rattle.sets.proofs.MaskLaws.{mem-and, mem-empty, mem-insert, insert-new, insert-cases, ext-all}
+use Rattle.sets.proofs.MaskLaws.{mem-and, mem-or, mem-empty, mem-insert, insert-new, insert-cases, ext-all}
 use Rattle.cells.specs.Cells.{gaining}
+use Rattle.cells.specs.First.{firstOf}
 use Rattle.cells.proofs.FirstLaws.{first-past}
-use Rattle.tables.specs.Tables.{accesses, rowRoom, shapeIn, slotIn, rowIn}
+use Rattle.tables.specs.Tables.{accesses, rowRoom, shapeIn, slotIn, writesIn, rowIn}
 use Rattle.tables.proofs.TablesLaws.{reader-slot}
 use Rattle.own.specs.Lone.{Lone}
 use Rattle.torn.specs.Torn.{untornIn, sourceGains, sourcesIn, rule25In}
@@ -41,15 +42,13 @@ use Rattle.torn.specs.steps.Doubled.{Twice, Doubled}
 use Rattle.torn.proofs.NoticedLaws.{or-nothing}
 use Rattle.torn.proofs.TornLaws.{row-gains, row-keeps, sources-none, sources-length, sources-more}
 use Rattle.torn.proofs.DoubledLaws.{not-doubled}
-use Rattle.rules.specs.Rules.{cyclicIn, rule22In, restIn}
-use Rattle.rules.specs.steps.Cover.{nearRoom, Covering}
-use Rattle.rules.specs.steps.Stirred.{Stirred}
-use Rattle.rules.proofs.RulesLaws.{rule22-no}
-use Rattle.rules.proofs.StirredLaws.{rule23-kept, rule24-kept}
+use Rattle.rules.specs.Rules.{cyclicIn, turnedIn, betweenIn, overIn, restIn}
+use Rattle.rules.specs.steps.Cover.{nearRoom}
+use Rattle.rules.proofs.RulesLaws.{turned-is, rule22-no, rule23-no, rule24-no}
+use Rattle.rules.proofs.CoverLaws.{covers-parts, by-first}
 use Rattle.bars.specs.steps.Covered.{coveredIn}
 use Rattle.bars.proofs.CoveredLaws.{covered-reader, covered-writer}
-use Rattle.sift.specs.Clean.{wholeIn, runOf, lastIn, runIn, RowAmiss, AmissAt, Clean}
-use Rattle.sift.specs.steps.Firsts.{Agrees}
+use Rattle.sift.specs.Clean.{wideOf, nearTo, Telling, stirsIn, wholeIn, runOf, lastIn, runIn, RowAmiss, AmissAt, Clean}
 
 -- ---- what is noticed
 
@@ -63,6 +62,9 @@ marks-or {A} {B} a b m n = record { none = λ e. none (or-nothing a b e); some =
     some : (bitOr a b ≡ 0 → ⊥) → Dec (a ≡ 0) → A ⊎ B
     some f (yes e) = inr (n .some (λ q. f (ap₂ bitOr e q ∙ or-zero-l 0)))
     some f (no e) = inl (m .some e)
+
+pub marks-number : (x y : ℕ) → x ≡ y → Marks x (y ≡ 0 → ⊥)
+marks-number x y e = record { none = λ z f. f (sym e ∙ z); some = λ f z. f (e ∙ z) }
 
 -- a test as a number
 one-test : (b : Bool) → _≡_ {A = ℕ} (cond b 1 0) 0 → b ≡ false
@@ -131,16 +133,7 @@ marks-clean c m = record { holds = λ h. m .none (eqb-true c 0 h); fails = λ h 
 
 -- a row that is not amiss
 pub row-covered : (t succ pred : List ℕ) (far : ℕ) (l : List ℕ) (r : Row) (last m : ℕ) → (RowAmiss t succ pred far l r last m → ⊥) → coveredIn t r ≡ true
-row-covered t succ pred far l r last m h = by-bool (coveredIn t r) (λ y. y) (λ y. absurd (h (inr (inl y))))
-
-module _ (t eq eqs : List ℕ) (r : Row) (cov : coveredIn t r ≡ true) (agree : Agrees t eq eqs) where
-  pub agree-reader : getD eq (r .reader % slots) 0 ≡ getD eqs (2 * (r .reader % slots)) 0
-  unfolding coveredIn
-  agree-reader = agree (r .reader % slots) (r .address) (omega arith) (and-both (covers (shapeIn t (2 * (r .reader % slots))) (r .address)) _ cov .0)
-
-  pub agree-writer : getD eq (r .writer % slots) 0 ≡ getD eqs (2 * (r .writer % slots)) 0
-  unfolding coveredIn
-  agree-writer = agree (r .writer % slots) (r .address) (omega arith) (and-both (covers (shapeIn t (2 * (r .reader % slots))) (r .address)) _ cov .1)
+row-covered t succ pred far l r last m h = by-bool (coveredIn t r) (λ y. y) (λ y. absurd (h (inr (inr (inl y)))))
 
 -- ---- 25
 
@@ -234,25 +227,94 @@ module _ (t succ pred : List ℕ) (far : ℕ) (l q : List ℕ) where
       step : Unmixed (sourcesIn t q j nothing) (lastIn q j) (runIn t q j) → Unmixed (sourcesIn t q (suc j) nothing) (rowIn q j .reader) (runOf t (rowIn q j) (lastIn q j) (runIn t q j))
       step u =
           subst (λ (s : List ℕ). Unmixed s (rowIn q j .reader) (runOf t (rowIn q j) (lastIn q j) (runIn t q j))) more
-          (unmixed-next t (sourcesIn t q j nothing) (lastIn q j) (runIn t q j) u (rowIn q j) (reader-slot q j) (row-covered t succ pred far l (rowIn q j) (lastIn q j) (runIn t q (suc j)) fine) (λ g. fine (inr (inr (inl g)))) (λ w. fine (inr (inr (inr w))))
+          (unmixed-next t (sourcesIn t q j nothing) (lastIn q j) (runIn t q j) u (rowIn q j) (reader-slot q j) (row-covered t succ pred far l (rowIn q j) (lastIn q j) (runIn t q (suc j)) fine) (λ g. fine (inr (inr (inr (inl g))))) (λ w. fine (inr (inr (inr (inr w)))))
           (ap length more ∙ sources-length t q nothing (suc j) ∙ sym (sources-length t q nothing j)))
 
   -- ---- clean tables
 
-  pub clean-tells : (m : ℕ) (a b : Bool) (x : ℕ) → Tells a (Among m (AmissAt t succ pred far l q) → ⊥) → Tells b (Lone t slots) → Marks x (Among slots (λ (e : ℕ). cyclicIn succ e ≡ true))
-      → Tells (a && (b && eqb x 0)) (Clean t succ pred far l q m)
-  clean-tells m a b x rows alone own =
+  pub clean-tells : (n m : ℕ) (a b : Bool) (x : ℕ) → Tells a (Among m (AmissAt t succ pred far l q) → ⊥) → Tells b (Lone t n) → Marks x (Among slots (λ (e : ℕ). cyclicIn succ e ≡ true))
+      → Tells (a && (b && eqb x 0)) (Clean t n succ pred far l q m)
+  clean-tells n m a b x rows alone own =
       record {
         holds = λ h. let p = and-parts a _ h in let s = and-parts b _ (p .1) in record { uncyclic = own .none (eqb-true x 0 (s .1)); lone = alone .holds (s .0); still = rows .holds (p .0) };
         fails = λ h c. by-bool a (λ y. by-bool b (λ w. by-bool (eqb x 0) (λ z. not-both-ways ((λ i. y i && (w i && z i))) h) (λ z. c .uncyclic (own .some (eqb-false x 0 z)))) (λ w. alone .fails w (c .lone))) (λ y. rows .fails y (c .still));
       }
 
-  pub clean-kept : (n m : ℕ) (z : List ℕ) → n ≤ slots → m ≤ rowRoom → nearRoom ≤ length z → Covering t n n z l far → Clean t succ pred far l q m → restIn t n succ pred q m ≡ Kept
+  -- what is known of a row that is not amiss
+  module _ (j : ℕ) (fine : AmissAt t succ pred far l q j → ⊥) where
+    still : stirsIn succ pred far l (rowIn q j) ≡ 0
+    still = go (ℕ-discrete (stirsIn succ pred far l (rowIn q j)) 0)
+      where
+        go : Dec (stirsIn succ pred far l (rowIn q j) ≡ 0) → stirsIn succ pred far l (rowIn q j) ≡ 0
+        go (yes e) = e
+        go (no f) = absurd (fine (inl f))
+
+    first : rowIn q j .address < nearRoom
+    first = go (decLt 63 (rowIn q j .address))
+      where
+        go : Dec (63 < rowIn q j .address) → rowIn q j .address < nearRoom
+        go (yes h) = absurd (fine (inr (inl h)))
+        go (no h) = omega (arith, h)
+
+    not-turned : j < rowRoom → turnedIn q succ j ≡ false
+    unfolding stirsIn
+    not-turned h =
+        sym (turned-is q j h (rowIn q j) (ap (rowIn q) (sym (mod-eq-of-lt h))) succ) ∙ one-test (mem (getD succ (rowIn q j .reader % slots) 0) (rowIn q j .writer % slots)) (or-nothing _ _ still .0)
+
+    module _ (n : ℕ) (have : Telling t n far l) (alone : Lone t n) where
+      may : (v : ℕ) → v < slots → writesIn t v (rowIn q j .address) ≡ true → Has (bitOr far (getD l (rowIn q j .address % nearRoom) 0)) v
+      unfolding wideOf nearTo Lone
+      may v h y =
+          let a = rowIn q j .address in
+          let at : a % nearRoom ≡ a = mod-eq-of-lt first in
+          mem-or far _ v ∙ bar-or (mem far v) _ ∙ go (decLt v n) at
+        where
+          go : Dec (v < n) → rowIn q j .address % nearRoom ≡ rowIn q j .address → (mem far v or mem (getD l (rowIn q j .address % nearRoom) 0) v) ≡ true
+          go (no k) at = or-holds (mem far v) _ (have .others v h ∙ or-second _ (leb n v) (le-leb n v (omega (arith, k))))
+          go (yes k) at =
+              by-bool (wideOf (shapeIn t (2 * v)))
+              (λ w. or-holds (mem far v) _ (have .others v h ∙ or-holds _ (leb n v) (both-hold (ltb v n) _ (lt-ltb v n k) w)))
+              (λ w. or-second (mem far v) _ (ap (λ (i : ℕ). mem (getD l i 0) v) at ∙ have .near v (rowIn q j .address) first ∙ close w))
+            where
+              close : wideOf (shapeIn t (2 * v)) ≡ false → ((ltb v n and writes (shapeIn t (2 * v))) and nearTo (shapeIn t (2 * v)) (rowIn q j .address)) ≡ true
+              close w =
+                  let a = rowIn q j .address in
+                  let s = shapeIn t (2 * v) in
+                  let p : ltb 8 (s .width) ≡ false = false-of _ (λ z. not-both-ways (or-holds (ltb 8 (s .width)) _ z) w) in
+                  let g : ltb 63 (s .start) ≡ false = false-of _ (λ z. not-both-ways (or-second (ltb 8 (s .width)) _ z) w) in
+                  let by = by-first t v a (alone v k) y in
+                  let c = covers-parts s a (by .0) in
+                  let low = c .0 in
+                  let high = c .1 in
+                  let u = ltb-false 8 (s .width) p in
+                  let i = ltb-false 63 (s .start) g in
+                  both-hold _ _ (both-hold (ltb v n) _ (lt-ltb v n k) (by .1)) (both-hold _ _ (le-leb (s .start % nearRoom) a (omega arith)) (lt-ltb a (s .start % nearRoom + min (s .width) 8) (omega arith)))
+
+      none-between : (v : ℕ) → v < slots → betweenIn t succ pred (rowIn q j) v ≡ false
+      unfolding stirsIn betweenIn
+      none-between v h =
+          false-of _
+          (λ y. let w = and-both (mem (bitAnd (getD succ (rowIn q j .writer % slots) 0) (getD pred (rowIn q j .reader % slots) 0)) v) (writesIn t v (rowIn q j .address)) y in
+          not-both-ways (both _ _ (w .0) (may v h (w .1)))
+          (ap (λ (x : ℕ). mem x v) (or-nothing (cond (mem (getD succ (rowIn q j .reader % slots) 0) (rowIn q j .writer % slots)) 1 0) _ still .1) ∙ mem-empty v))
+        where
+          both : (a b : ℕ) → Has a v → Has b v → Has (bitAnd a b) v
+          both a b p r = mem-and a b v ∙ amp-and (mem a v) (mem b v) ∙ both-hold (mem a v) (mem b v) p r
+
+      not-over : overIn t q succ pred j ≡ false
+      unfolding overIn
+      not-over =
+          let e = first-past (betweenIn t succ pred (rowIn q j)) slots slots (omega arith) none-between in
+          le-ltb (firstOf (betweenIn t succ pred (rowIn q j)) slots) slots (omega arith)
+
+  pub clean-kept : (n m : ℕ) → n ≤ slots → m ≤ rowRoom → Telling t n far l → Clean t n succ pred far l q m → restIn t n succ pred q m ≡ Kept
   unfolding restIn rule25In
-  clean-kept n m z few room wide have c =
+  clean-kept n m few room have c =
       let kept22 = rule22-no n n (omega arith) succ (first-past (cyclicIn succ) n n (omega arith) (λ e h. false-of _ (λ y. c .uncyclic (record { at = e; inside = omega arith; holds = y })))) in
-      let never : Stirred q m succ pred far l → ⊥ = λ a. c .still (record { at = a .at; inside = a .inside; holds = inl (a .holds) }) in
-      let kept23 = rule23-kept q m succ pred far l room never in
-      let kept24 = rule24-kept q m succ pred far l room never have wide in
+      let kept23 = rule23-no m m (omega arith) q succ (first-past (turnedIn q succ) m m (omega arith) (λ j h. not-turned j (fine j h) (omega arith))) in
+      let kept24 = rule24-no m m (omega arith) t q succ pred (first-past (overIn t q succ pred) m m (omega arith) (λ j h. not-over j (fine j h) n have (c .lone))) in
       let kept25 = not-doubled (sourcesIn t q m nothing) n few (λ d. unmixed m (c .still) .single (d .at) (d .inside) (d .holds)) in
       sym (also-later kept22 (also-later kept23 (also-later kept24 kept25)))
+    where
+      fine : (j : ℕ) → j < m → AmissAt t succ pred far l q j → ⊥
+      fine j h a = c .still (record { at = j; inside = h; holds = a })

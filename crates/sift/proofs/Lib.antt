@@ -1,2 +1,5 @@
-pub mod FirstsLaws
+pub mod LeftLaws
+pub mod NotedLaws
+pub mod AlikesLaws
+pub mod NearLaws
 pub mod CleanLaws

@@ -1,4 +1,4 @@
--- `sift::barred` meets its contract, call by call: what `bars::first_row` does, by the sets of events. Assumes nothing.
+-- `sift::barred` meets its contract, call by call: what `bars::first_row` and `late` do, by the sets of events. Assumes nothing.
 use mathlib.Core.Path.{_≡_, sym, ap, _∙_}
 use Prim.Native.Nat.{ℕ, _*_, _%_}
 use native.Mathlib.Nat.{mod-eq-of-lt}
@@ -7,10 +7,13 @@ use denote.Ref.{now}
 use lib.ListN.{getD}
 use Rattle.basis.specs.Test.{_and_, non}
 use Rattle.sets.specs.Mask.{slots, mem}
-use Rattle.tables.specs.Tables.{accesses, slotIn}
+use Rattle.format.specs.Shape.{sc}
+use Rattle.tables.specs.Tables.{accesses, shapeIn, slotIn}
 use Rattle.bars.specs.Bars.{maskIn}
 use Rattle.bars.specs.Listed.{goneIn}
 use Rattle.bars.proofs.CoveredLaws.{covered-reader, covered-writer}
+use Rattle.sift.specs.steps.Alikes.{Bare, Agrees}
+use Rattle.sift.proofs.AlikesLaws.{agree-reader, agree-writer}
 use borrow.Author.Needs.{needs}
 use Rattle.sift.proofs.barred.Statement.{statement}
 use Rattle.sift.proofs.barred.Tie as tie
@@ -75,8 +78,10 @@ late-requires c κs = search needs
 returns : tie.Need-returns
 unfolding maskIn
 returns c =
-    λ h eqs p s v.
+    λ h eqs agree v.
     let a = c .before .before .before .before .before .before .before .before .before .before .before .before .before .args in
+    let p = agree-reader agree (a .r) h in
+    let s = agree-writer agree (a .r) h in
     let t = now (a .t) in
     let r = a .r .reader % slots in
     let w = a .r .writer % slots in
@@ -86,7 +91,9 @@ returns c =
     let j : slotIn t w (a .r .address) ≡ 2 * w = covered-writer t (a .r) h in
     let ii : (2 * r) % accesses ≡ 2 * r = mod-eq-of-lt (omega arith) in
     let jj : (2 * w) % accesses ≡ 2 * w = mod-eq-of-lt (omega arith) in
-    let is : c .before .without2 .result ≡ maskIn t eqs (now (a .succ)) (now (a .pred)) (a .r) = simp (c .before .without2 .ensures, c .before .before .without .ensures, c .before .before .before .reasons .ensures, c .before .before .before .before .before .has .ensures, c .before .before .before .before .before .before .before .before .before .shape .ensures, c .before .before .before .before .before .before .before .before .shape2 .ensures, i, j, ii, jj, rr, ww, p, s) in
+    let bare-r : Bare (c .before .before .before .before .before .before .before .before .before .shape .result) (getD (now (a .eq)) r 0) = λ z. p ∙ agree .bare r (omega arith) (ap sc (sym (c .before .before .before .before .before .before .before .before .before .shape .ensures ∙ ap (shapeIn t) ii)) ∙ z) in
+    let bare-w : Bare (c .before .before .before .before .before .before .before .before .shape2 .result) (getD (now (a .eq)) w 0) = λ z. s ∙ agree .bare w (omega arith) (ap sc (sym (c .before .before .before .before .before .before .before .before .shape2 .ensures ∙ ap (shapeIn t) jj)) ∙ z) in
+    let is : c .before .without2 .result ≡ maskIn t eqs (now (a .succ)) (now (a .pred)) (a .r) = simp (c .before .without2 .ensures, c .before .before .without .ensures, c .before .before .before .reasons .ensures bare-r bare-w, c .before .before .before .before .before .has .ensures, c .before .before .before .before .before .before .before .before .before .shape .ensures, c .before .before .before .before .before .before .before .before .shape2 .ensures, i, j, ii, jj, rr, ww, p, s) in
     c .late .ensures v ∙ ap (λ (x : ℕ). mem x v and non (goneIn (a .k) (now (a .pred)) (w % slots) v)) is ∙ ap (λ (x : ℕ). mem (maskIn t eqs (now (a .succ)) (now (a .pred)) (a .r)) v and non (goneIn (a .k) (now (a .pred)) x v)) ww
 
 pub barred-spec : {M : Type 1} → statement M

@@ -24,8 +24,8 @@ use Rattle.bars.specs.Listed.{listRoom, listsIn, Listed}
 use Rattle.bars.specs.steps.Covered.{coveredIn}
 use Rattle.bars.proofs.ListedLaws.{Had, lists-mem, listed-none, same-both, listed-next}
 use Rattle.sift.specs.Clean.{lastIn, runIn, AmissAt}
-use Rattle.sift.specs.steps.Firsts.{Agrees}
-use Rattle.sift.proofs.CleanLaws.{last-more, run-more, amiss-at, marks-clean, row-covered, agree-reader, agree-writer}
+use Rattle.sift.specs.steps.Alikes.{Agrees}
+use Rattle.sift.proofs.CleanLaws.{last-more, run-more, amiss-at, marks-clean, row-covered}
 use Rattle.sift.proofs.pass.Statement.{statement}
 use Rattle.sift.proofs.pass.Tie as tie
 
@@ -74,7 +74,6 @@ loop-again c =
     let a = c .before .before .before .before .before .before .before .before .before .before .before .before .before .before .before .before .before .before .before .before .before .before .args in
     let l = c .before .before .before .before .before .before .before .before .before .before .before .before .before .before .before .before .before .loop in
     let t = now (a .t) in
-    let eq = now (a .eq) in
     let bytes = now (a .bytes) in
     let succ = now (a .succ) in
     let pred = now (a .pred) in
@@ -96,7 +95,7 @@ loop-again c =
           let p = or-nothing (l .c) y h in
           let g = l .inv .5 (p .0) eqs agree in
           let cov : coveredIn t r ≡ true = row-covered t succ pred (a .far) bytes r (l .last-reader) x (c .before .before .before .before .before .before .before .before .before .before .before .before .before .amiss .ensures .none (p .1)) in
-          let m = lists-mem t eqs succ pred q (a .k) (rowIn q (l .j)) (maskIn t eqs succ pred r) (r .writer % slots) b (ap (maskIn t eqs succ pred) is) w (c .before .before .before .before .before .before .before .before .before .before .before .before .barred .ensures cov eqs (agree-reader t eq eqs r cov agree) (agree-writer t eq eqs r cov agree)) in
+          let m = lists-mem t eqs succ pred q (a .k) (rowIn q (l .j)) (maskIn t eqs succ pred r) (r .writer % slots) b (ap (maskIn t eqs succ pred) is) w (c .before .before .before .before .before .before .before .before .before .before .before .before .barred .ensures cov eqs agree) in
           listed-next t eqs succ pred q (a .k) (g .0) (g .1) (l .inv .6) (l .inv .7) (l .inv .8) r is b m _ (same-both _ _ _ _ _ _) (c .before .before .before .before .before .before .enter .ensures),
       search needs,
       search needs,

@@ -9,7 +9,7 @@ use Rattle.torn.specs.steps.Noticed.{Among}
 use Rattle.bars.specs.Listed.{Listed}
 use Rattle.sift.specs.declared.Sifted.{Sifted}
 use Rattle.sift.specs.Clean.{AmissAt}
-use Rattle.sift.specs.steps.Firsts.{Agrees}
+use Rattle.sift.specs.steps.Alikes.{Agrees}
 
 pub record Passed (t eq : List ℕ) (far : ℕ) (l succ pred q : List ℕ) (k m : ℕ) (s : Sifted) (between readers writers : List ℕ) : Type 0 where
   pub is : Tells (s .clean) (Among m (AmissAt t succ pred far l q) → ⊥)

@@ -83,12 +83,18 @@ fn gained(y: u32, test: bool, x: u32) -> u32
     if test { y | x } else { y }
 }
 
-// The masks at the members of the set m gain x. All places are looked at, or the first 24 where the members lie below, without a jump and by a fixed
-// number, so that the machine takes several at once.
+// The masks at the members of the set m gain x. All places are looked at, or the first 12 or 24 where the members lie below, without a jump and by a
+// fixed number, so that the machine takes several at once.
 fn grow(masks: &mut [u32], m: u32, x: u32)
     requires { ⌜ length (now masks) ≡ slots ⌝ }
     ensures { λ _. ⌜ Grew m x (now (masks .entry)) (now (masks .exit)) ⌝ }
 {
+    if m < 4096 {
+        for e in 0..12usize {
+            masks[e] = gained(masks[e], sets::has(m, e), x);
+        }
+        return;
+    }
     if m < 16777216 {
         for e in 0..24usize {
             masks[e] = gained(masks[e], sets::has(m, e), x);
@@ -110,12 +116,24 @@ fn join(a: usize, d: u32, succ: &mut [u32], cols: &mut [u32])
     grow(cols, d, u);
 }
 
-// The members of x, and what they lead to. All places are looked at, as above.
+// The members of x, and what they lead to. All places are looked at, or the first of them, as above.
 fn beyond(x: u32, succ: &[u32]) -> u32
     requires { ⌜ length (now succ) ≡ slots ⌝ }
     ensures { λ r. ⌜ Beyond slots (now (succ .entry)) x r ⌝ }
 {
     let mut d = x;
+    if x < 4096 {
+        for k in 0..12usize {
+            d = gained(d, sets::has(x, k), succ[k]);
+        }
+        return d;
+    }
+    if x < 16777216 {
+        for k in 0..24usize {
+            d = gained(d, sets::has(x, k), succ[k]);
+        }
+        return d;
+    }
     for e in 0..SLOTS {
         d = gained(d, sets::has(x, e), succ[e]);
     }

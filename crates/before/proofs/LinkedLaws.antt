@@ -1,5 +1,5 @@
 -- The laws of specs/steps/Linked.antt: a step more, and the closure stays one. Assumes nothing.
---     Changed, changed-.., grew-more, grew-all, merged-all, beyond-none, beyond-more, beyond-picked     loops over places
+--     Changed, changed-.., grew-more, grew-all, merged-all, beyond-none, beyond-more, beyond-all, beyond-picked     loops over places
 --     grew-mem                    what a mask has after
 --     link-on                     a leads to more, and so does all that leads to a
 --     link-known, step-old        a step that there is a way for adds nothing
@@ -21,7 +21,7 @@ use lib.Seq.{getD-set-same, getD-set-other, set-getD, getD-drop, ext-getD}
 use Rattle.basis.specs.Test.{_and_, _or_}
 use Rattle.basis.proofs.BoolLaws.{bar-or, or-holds, or-second, or-either, not-both-ways, false-of, and-holds, and-both, bool-ext}
 use Rattle.sets.specs.Mask.{slots, mem, Has, insert}
-use Rattle.sets.proofs.MaskLaws.{mem-or, mem-empty, mem-beyond, insert-in, insert-new, insert-old, insert-cases, ext-all}
+use Rattle.sets.proofs.MaskLaws.{mem-or, mem-empty, mem-lt, mem-beyond, insert-in, insert-new, insert-old, insert-cases, ext-all}
 use Rattle.closing.specs.Closure.{taken, Reach, step, more}
 use Rattle.closing.proofs.ClosureLaws.{reach-trans}
 use Rattle.cells.specs.Walk.{upTo, picked}
@@ -137,6 +137,16 @@ beyond-more n succ x d b = record { has = λ v. go v (mem x n) refl }
         )
 
 -- what lies below n alone is looked at
+-- all members lie below w
+pub beyond-all : (w : ℕ) (succ : List ℕ) (x d : ℕ) → w ≤ slots → x < 2 ^ w → Beyond w succ x d → Beyond slots succ x d
+beyond-all w succ x d few low b =
+    record {
+      has = λ v. (
+        λ q. ⊎-elim inl (λ y. inr (y .0, (let z = y .1 in omega (arith, z, few)), y .2, y .3)) (b .has v .0 q),
+        λ q. b .has v .1 (⊎-elim inl (λ y. inr (y .0, mem-lt w x (y .0) low (y .2), y .2, y .3)) q),
+      );
+    }
+
 pub beyond-picked : (n : ℕ) (f : ℕ → Bool) (succ : List ℕ) (d : ℕ) → n ≤ slots → Beyond slots succ (picked n f) d → Beyond n succ (picked n f) d
 beyond-picked n f succ d few b =
     record {

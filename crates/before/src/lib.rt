@@ -48,17 +48,6 @@ fn syncs_first(t: &[u8; COLUMNS], r: Row) -> bool
     ranges::both_sc(a, b) & ranges::covers(a, r.address)
 }
 
-// The same, by a flag: `lone` tells whether no event has a second access, and so below.
-fn row_syncs(lone: bool, t: &[u8; COLUMNS], r: Row) -> bool
-    requires { ⌜ Tells lone (Lone (now t) slots) ⌝ }
-    ensures { λ b. ⌜ b ≡ syncIn (now (t .entry)) r ⌝ }
-{
-    if lone {
-        return syncs_first(t, r);
-    }
-    syncs(t, r)
-}
-
 // ---- what an event meets
 
 // The other events below n that e meets, where no event has a second access.
@@ -74,7 +63,7 @@ fn met_first(t: &[u8; COLUMNS], n: usize, e: usize) -> u32
     sets::without(s, e)
 }
 
-// The same, by the flag.
+// The same, by a flag: `lone` tells whether no event has a second access, and so below.
 fn met(lone: bool, t: &[u8; COLUMNS], n: usize, e: usize) -> u32
     requires { ⌜ (n ≤ slots) × (e < slots) × Tells lone (Lone (now t) slots) ⌝ }
     ensures { λ r. ⌜ r ≡ picked n (metIn (now (t .entry)) e) ⌝ }
@@ -94,12 +83,18 @@ fn gained(y: u32, test: bool, x: u32) -> u32
     if test { y | x } else { y }
 }
 
-// The masks at the members of the set m gain x. All places are looked at, or the first 24 where the members lie below, without a jump and by a fixed
-// number, so that the machine takes several at once.
+// The masks at the members of the set m gain x. All places are looked at, or the first 12 or 24 where the members lie below, without a jump and by a
+// fixed number, so that the machine takes several at once.
 fn grow(masks: &mut [u32], m: u32, x: u32)
     requires { ⌜ length (now masks) ≡ slots ⌝ }
     ensures { λ _. ⌜ Grew m x (now (masks .entry)) (now (masks .exit)) ⌝ }
 {
+    if m < 4096 {
+        for e in 0..12usize {
+            masks[e] = gained(masks[e], sets::has(m, e), x);
+        }
+        return;
+    }
     if m < 16777216 {
         for e in 0..24usize {
             masks[e] = gained(masks[e], sets::has(m, e), x);
@@ -121,12 +116,24 @@ fn join(a: usize, d: u32, succ: &mut [u32], cols: &mut [u32])
     grow(cols, d, u);
 }
 
-// The members of x, and what they lead to. All places are looked at, as above.
+// The members of x, and what they lead to. All places are looked at, or the first of them, as above.
 fn beyond(x: u32, succ: &[u32]) -> u32
     requires { ⌜ length (now succ) ≡ slots ⌝ }
     ensures { λ r. ⌜ Beyond slots (now (succ .entry)) x r ⌝ }
 {
     let mut d = x;
+    if x < 4096 {
+        for k in 0..12usize {
+            d = gained(d, sets::has(x, k), succ[k]);
+        }
+        return d;
+    }
+    if x < 16777216 {
+        for k in 0..24usize {
+            d = gained(d, sets::has(x, k), succ[k]);
+        }
+        return d;
+    }
     for e in 0..SLOTS {
         d = gained(d, sets::has(x, e), succ[e]);
     }
@@ -185,13 +192,27 @@ fn add_inits(lone: bool, t: &[u8; COLUMNS], n: usize, succ: &mut [u32], cols: &m
 }
 
 // The row's writer leads to its reader, where the two synchronise. One jump for all that adds nothing: a step that there is a way for does not.
-fn add_row(lone: bool, t: &[u8; COLUMNS], n: usize, r: Row, succ: &mut [u32], cols: &mut [u32])
-    requires { ⌜ (n ≤ slots) × (length (now succ) ≡ slots) × (length (now cols) ≡ slots) × Tells lone (Lone (now t) slots) ⌝ }
+fn add_row_any(t: &[u8; COLUMNS], n: usize, r: Row, succ: &mut [u32], cols: &mut [u32])
+    requires { ⌜ (n ≤ slots) × (length (now succ) ≡ slots) × (length (now cols) ≡ slots) ⌝ }
     ensures { λ _. ⌜ Linking n (syncGains (now (t .entry)) r) (now (succ .entry)) (now (cols .entry)) (now (succ .exit)) (now (cols .exit)) ⌝ }
 {
     let a = r.writer as usize % SLOTS;
     let b = r.reader as usize % SLOTS;
-    let adds = row_syncs(lone, t, r) & !sets::has(succ[a], b);
+    let adds = syncs(t, r) & !sets::has(succ[a], b);
+    if !adds {
+        return;
+    }
+    step(n, a, b, succ, cols);
+}
+
+// The same where no event has a second access.
+fn add_row_first(t: &[u8; COLUMNS], n: usize, r: Row, succ: &mut [u32], cols: &mut [u32])
+    requires { ⌜ (n ≤ slots) × (length (now succ) ≡ slots) × (length (now cols) ≡ slots) × Lone (now t) slots ⌝ }
+    ensures { λ _. ⌜ Linking n (syncGains (now (t .entry)) r) (now (succ .entry)) (now (cols .entry)) (now (succ .exit)) (now (cols .exit)) ⌝ }
+{
+    let a = r.writer as usize % SLOTS;
+    let b = r.reader as usize % SLOTS;
+    let adds = syncs_first(t, r) & !sets::has(succ[a], b);
     if !adds {
         return;
     }
@@ -199,6 +220,42 @@ fn add_row(lone: bool, t: &[u8; COLUMNS], n: usize, r: Row, succ: &mut [u32], co
 }
 
 // The steps of the first rows; they count up to the rows that have a place.
+fn add_rows_any(
+    t: &[u8; COLUMNS],
+    n: usize,
+    q: &[u8; ROW_CELLS],
+    rows: usize,
+    succ: &mut [u32],
+    cols: &mut [u32],
+)
+    requires { ⌜ (n ≤ slots) × (length (now succ) ≡ slots) × (length (now cols) ≡ slots) ⌝ }
+    ensures { λ _. ⌜ Linking n (rowStepsIn (now (t .entry)) (now (q .entry)) (min rows rowRoom)) (now (succ .entry)) (now (cols .entry)) (now (succ .exit)) (now (cols .exit)) ⌝ }
+{
+    let m = least(rows, ROWS);
+    for j in 0..m {
+        add_row_any(t, n, rows::row(q, j), succ, cols);
+    }
+}
+
+// The same where no event has a second access.
+fn add_rows_first(
+    t: &[u8; COLUMNS],
+    n: usize,
+    q: &[u8; ROW_CELLS],
+    rows: usize,
+    succ: &mut [u32],
+    cols: &mut [u32],
+)
+    requires { ⌜ (n ≤ slots) × (length (now succ) ≡ slots) × (length (now cols) ≡ slots) × Lone (now t) slots ⌝ }
+    ensures { λ _. ⌜ Linking n (rowStepsIn (now (t .entry)) (now (q .entry)) (min rows rowRoom)) (now (succ .entry)) (now (cols .entry)) (now (succ .exit)) (now (cols .exit)) ⌝ }
+{
+    let m = least(rows, ROWS);
+    for j in 0..m {
+        add_row_first(t, n, rows::row(q, j), succ, cols);
+    }
+}
+
+// The same, by the flag: a loop for each, so that no row asks for it.
 fn add_rows(
     lone: bool,
     t: &[u8; COLUMNS],
@@ -211,10 +268,11 @@ fn add_rows(
     requires { ⌜ (n ≤ slots) × (length (now succ) ≡ slots) × (length (now cols) ≡ slots) × Tells lone (Lone (now t) slots) ⌝ }
     ensures { λ _. ⌜ Linking n (rowStepsIn (now (t .entry)) (now (q .entry)) (min rows rowRoom)) (now (succ .entry)) (now (cols .entry)) (now (succ .exit)) (now (cols .exit)) ⌝ }
 {
-    let m = least(rows, ROWS);
-    for j in 0..m {
-        add_row(lone, t, n, rows::row(q, j), succ, cols);
+    if lone {
+        add_rows_first(t, n, q, rows, succ, cols);
+        return;
     }
+    add_rows_any(t, n, q, rows, succ, cols);
 }
 
 // The steps of the first pairs, from the first of a pair to its second; they count up to the pairs that have a place.

@@ -7,7 +7,9 @@ use ranges::unbroken;
 ghost use mathlib.Core.Path.{_≡_};
 ghost use lib.Dec.{eqb};
 ghost use Rattle.basis.specs.Test.{_and_, _or_};
+ghost use Prim.Native.Nat.{_%_};
 ghost use Rattle.format.specs.Shape.{initial};
+ghost use Rattle.content.specs.steps.Widths.{widthsOf};
 ghost use Rattle.content.specs.Content.{within, inside, initFormed, sized, kindFits, otherFormed, formed, tearFits, alone};
 
 pub fn within(lo: u8, hi: u8, n: u8) -> bool
@@ -82,6 +84,59 @@ pub fn tear_fits(a: Shape) -> bool
     a.tear == 0
 }
 
+// By kind and mode, four to a kind, the widths as a set: 1, 2, 4 and 8 for an access, 0 for a marker.
+const WIDTHS: [u32; 32] = [
+    0,
+    0,
+    0,
+    0,
+    0,
+    278,
+    278,
+    0,
+    0,
+    278,
+    278,
+    0,
+    0,
+    0,
+    278,
+    0,
+    0,
+    0,
+    1,
+    0,
+    0,
+    0,
+    0,
+    0,
+    0,
+    0,
+    0,
+    0,
+    0,
+    0,
+    0,
+    0,
+];
+
+fn widths(kind: u8, mode: u8) -> u32
+    ensures { λ r. ⌜ r ≡ widthsOf (kind % 8) (mode % 4) ⌝ }
+{
+    WIDTHS[(kind as usize % 8) * 4 + mode as usize % 4]
+}
+
+// The kind, mode, width and alignment of an event that is no init: as `kind_fits`, with less to do. A marker's width of 0 lets only the start 0 pass.
+fn listed(a: Shape) -> bool
+    ensures { λ r. ⌜ r ≡ ((eqb (a .mode) 1 or eqb (a .mode) 2) and kindFits a) ⌝ }
+{
+    let w = a.width;
+    let small = (a.kind < 8) & ((a.mode < 4) & (w < 32));
+    let wide = sets::has(widths(a.kind, a.mode), w as usize);
+    let aligned = a.start as u16 & (w as u16 + 255) == 0;
+    (small & wide) & (!access::sc(a) | aligned)
+}
+
 // An init, but for its tear byte.
 pub fn init_alone(h: Head, agent: u8, a: Shape) -> bool
     ensures { λ r. ⌜ r ≡ (inside (h .size) a and (initial a and initFormed agent a)) ⌝ }
@@ -93,7 +148,7 @@ pub fn init_alone(h: Head, agent: u8, a: Shape) -> bool
 pub fn other_alone(h: Head, agent: u8, a: Shape) -> bool
     ensures { λ r. ⌜ r ≡ (inside (h .size) a and ((eqb (a .mode) 1 or eqb (a .mode) 2) and otherFormed (h .agents) agent a)) ⌝ }
 {
-    inside(h.size, a) & (((a.mode == 1) | (a.mode == 2)) & other_formed(h.agents, agent, a))
+    inside(h.size, a) & (listed(a) & within(1, h.agents, agent))
 }
 
 // An event, whatever stands before it.

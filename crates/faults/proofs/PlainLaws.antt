@@ -1,7 +1,7 @@
 -- Fields that pass every test, from the tests of the code. Assumes nothing.
 --     head-told                a head; as the code tests it: head-same, head-not, head-all
 --     init-told                an init; as the code tests it: init-short, init-all
---     other-told               an event that is no init, by edition 2's layout and, there, its tear byte; as the code tests it: other-short, other-torn, other-all
+--     other-told               an event that is no init, by edition 2's layout and, there, its tear byte; as the code tests it: other-short, other-all
 use Prim.Native.Nat.{ℕ, _+_, _-_, _≤_, _<_}
 use mathlib.Core.Path.{_≡_, refl, sym, ap, _∙_, subst}
 use mathlib.Core.Bool.{Bool, true, false, cond, not, _&&_, _||_}
@@ -25,7 +25,7 @@ use Rattle.parse.specs.Parse.{allowed, headFault, eventFaultBy, valueFaultBy, f
 use Rattle.parse.proofs.FormedLaws.{passed, passed-non}
 use Rattle.entries.specs.declared.Counts.{Counts}
 use Rattle.entries.specs.Entries.{eventsIn}
-use Rattle.faults.specs.Faults.{roomBy, frontBytes, PlainHead, PlainEvent, headTest, endsTest, initTest, otherTest, HeadTold, InitTold, OtherTold}
+use Rattle.faults.specs.Faults.{roomBy, frontBytes, PlainHead, PlainEvent, headTest, endsTest, initTest, otherTest, tearTest, HeadTold, InitTold, OtherTold}
 
 -- a value that ends within the sheet is as long as its field says
 value-long : (s : List ℕ) (p : ℕ) → nextAt s p ≤ length s → length (valueAt s p) ≡ lengthAt s p
@@ -213,18 +213,18 @@ init-told s p x r e =
     }
 
 other-told : (s : List ℕ) (p : ℕ) (x : Counts) (r : Bool) → r ≡ otherTest s p x → OtherTold s p x r
-unfolding otherTest
+unfolding otherTest tearTest
 other-told s p x r e =
     record {
       is = e;
-      clean = λ h at.
+      front = λ h. leb-true _ _ (and-both (leb (p + frontBytes) (length s)) _ (sym e ∙ h) .0);
+      clean = λ h f at.
           let b = shapeOf 2 (restAt s p) in
           let v = and-both (leb (p + frontBytes) (length s)) _ (sym e ∙ h) in
-          let u = and-both (cond (eqb (x .head .edition) 2) (tearFits b) true) _ (v .1) in
-          let w = and-both (eqb (tagAt s p) 2 and endsTest s p (x .head .edition) b) _ (u .1) in
+          let w = and-both (eqb (tagAt s p) 2 and endsTest s p (x .head .edition) b) _ (v .1) in
           let t = and-both (eqb (tagAt s p) 2) (endsTest s p (x .head .edition) b) (w .0) in
           let m = and-both (inside (x .head .size) b and ((eqb (b .mode) 1 or eqb (b .mode) 2) and otherFormed (x .head .agents) (agentOf (restAt s p)) b)) (ltb (x .events) (x .inits + maxOthers)) (w .1) in
-          other-plain s p x at (leb-true _ _ (v .0)) (t .0) (t .1) (m .0) (u .0) (m .1);
+          other-plain s p x at (leb-true _ _ (v .0)) (t .0) (t .1) (m .0) f (m .1);
     }
 
 -- ---- the tests as the code makes them, up to one that fails, or all
@@ -266,28 +266,8 @@ module _ (s : List ℕ) (p : ℕ) (x : Counts) where
   unfolding otherTest
   other-short h = other-told s p x false (sym (and-fails _ _ (not-in (length s) (p + frontBytes) h)))
 
-  other-same : (a : Shape) → a ≡ shapeOf 2 (restAt s p) → (g t : ℕ) → g ≡ agentOf (restAt s p) → t ≡ tagAt s p → (c o : Bool) → c ≡ endsTest s p (x .head .edition) a
-      → o ≡ (inside (x .head .size) a and ((eqb (a .mode) 1 or eqb (a .mode) 2) and otherFormed (x .head .agents) g a))
-      → ((eqb t 2 && c) && (o && ltb (x .events) (x .inits + maxOthers)))
-      ≡ ((eqb (tagAt s p) 2 and endsTest s p (x .head .edition) (shapeOf 2 (restAt s p)))
-      and ((inside (x .head .size) (shapeOf 2 (restAt s p)) and ((eqb (shapeOf 2 (restAt s p) .mode) 1 or eqb (shapeOf 2 (restAt s p) .mode) 2) and otherFormed (x .head .agents) (agentOf (restAt s p)) (shapeOf 2 (restAt s p))))
-      and ltb (x .events) (x .inits + maxOthers)))
-  unfolding _and_
-  other-same a ea g t eg et c o ec eo = rw (et, ec, eo, eg, ea) refl
-
-  module _ (l : ltb (length s) (p + frontBytes) ≡ false) (a : Shape) (ea : a ≡ shapeOf 2 (restAt s p)) (f : Bool) (ef : f ≡ cond (eqb (x .head .edition) 2) (tearFits a) true) where
-    whole-tear : f ≡ cond (eqb (x .head .edition) 2) (tearFits (shapeOf 2 (restAt s p))) true
-    whole-tear = ef ∙ ap (λ (b : Shape). cond (eqb (x .head .edition) 2) (tearFits b) true) ea
-
-    pub other-torn : not f ≡ true → OtherTold s p x false
-    unfolding otherTest
-    other-torn h =
-        other-told s p x false (sym (and-holds _ _ (in-sheet (length s) (p + frontBytes) l) ∙ and-fails _ _ (sym whole-tear ∙ not-true f h)))
-
-    pub other-all : not f ≡ false → (g t : ℕ) → g ≡ agentOf (restAt s p) → t ≡ tagAt s p → (c o : Bool) → c ≡ endsTest s p (x .head .edition) a
-        → o ≡ (inside (x .head .size) a and ((eqb (a .mode) 1 or eqb (a .mode) 2) and otherFormed (x .head .agents) g a))
-        → OtherTold s p x ((eqb t 2 && c) && (o && ltb (x .events) (x .inits + maxOthers)))
-    unfolding otherTest
-    other-all h g t eg et c o ec eo =
-        other-told s p x _
-        (other-same a ea g t eg et c o ec eo ∙ sym (and-holds _ _ (in-sheet (length s) (p + frontBytes) l) ∙ and-holds _ _ (sym whole-tear ∙ not-false f h)))
+  pub other-all : ltb (length s) (p + frontBytes) ≡ false → (a : Shape) → a ≡ shapeOf 2 (restAt s p) → (g t : ℕ) → g ≡ agentOf (restAt s p) → t ≡ tagAt s p → (c o : Bool)
+      → c ≡ endsTest s p (x .head .edition) a → o ≡ (inside (x .head .size) a and ((eqb (a .mode) 1 or eqb (a .mode) 2) and otherFormed (x .head .agents) g a))
+      → OtherTold s p x ((eqb t 2 && c) && (o && ltb (x .events) (x .inits + maxOthers)))
+  unfolding otherTest _and_
+  other-all l a ea g t eg et c o ec eo = other-told s p x _ (rw (et, ec, eo, eg, ea) (sym (and-holds _ _ (in-sheet (length s) (p + frontBytes) l))))

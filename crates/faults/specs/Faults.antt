@@ -8,8 +8,8 @@
 --     frontBytes               the bytes of a field before an event's data, in any edition
 --     PlainHead s              the first field is a head without a fault
 --     PlainEvent s p x at b    the field at p is an event without a fault, behind a head or an event; b tells whether of agent 0
---     headTest, initTest, otherTest     the tests of a head, an init, another event, as the code makes them
---     HeadTold, InitTold, OtherTold     an answer is the test's, and what passes has no fault; an init: where it stands first
+--     headTest, initTest, otherTest     the tests of a head, an init, another event, as the code makes them; tearTest     its tear byte
+--     HeadTold, InitTold, OtherTold     an answer is the test's, and what passes has no fault; an init: where it stands first; another event: where its tear byte fits
 -- Assumes nothing.
 use mathlib.Core.Path.{_≡_}
 use mathlib.Core.Bool.{Bool, true, false, cond}
@@ -76,14 +76,17 @@ initTest s p x =
     and (inside (x .head .size) (shapeOf 2 (restAt s p)) and (initial (shapeOf 2 (restAt s p)) and initFormed (agentOf (restAt s p)) (shapeOf 2 (restAt s p)))))
     and ((non (eqb (x .head .edition) 2) or eqb (shapeOf 2 (restAt s p) .tear) 0) and ltb (x .inits) maxInits))
 
--- the field at p is an event of mode 1 or 2 that fits, with room for it: by edition 2's layout, whose tear byte only edition 2 asks for
+-- the field at p is an event of mode 1 or 2 that fits, but for its tear byte, with room for it: by edition 2's layout
 unfoldable pub otherTest : List ℕ → ℕ → Counts → Bool
 otherTest s p x =
     leb (p + frontBytes) (length s)
-    and (cond (eqb (x .head .edition) 2) (tearFits (shapeOf 2 (restAt s p))) true
     and ((eqb (tagAt s p) 2 and endsTest s p (x .head .edition) (shapeOf 2 (restAt s p)))
     and ((inside (x .head .size) (shapeOf 2 (restAt s p)) and ((eqb (shapeOf 2 (restAt s p) .mode) 1 or eqb (shapeOf 2 (restAt s p) .mode) 2) and otherFormed (x .head .agents) (agentOf (restAt s p)) (shapeOf 2 (restAt s p))))
-    and ltb (x .events) (x .inits + maxOthers))))
+    and ltb (x .events) (x .inits + maxOthers)))
+
+-- the tear byte, which only edition 2 asks for: edition 1 has none, and its rule gives one that fits
+unfoldable pub tearTest : List ℕ → ℕ → ℕ → Bool
+tearTest s edition p = cond (eqb edition 2) (tearFits (shapeOf 2 (restAt s p))) true
 
 pub record HeadTold (s : List ℕ) (r : Bool) : Type 0 where
   pub is : r ≡ headTest s
@@ -97,4 +100,5 @@ pub record InitTold (s : List ℕ) (p : ℕ) (x : Counts) (r : Bool) : Type 0 wh
 
 pub record OtherTold (s : List ℕ) (p : ℕ) (x : Counts) (r : Bool) : Type 0 where
   pub is : r ≡ otherTest s p x
-  pub clean : r ≡ true → (at : List ℕ) → PlainEvent s p x at false
+  pub front : r ≡ true → p + frontBytes ≤ length s
+  pub clean : r ≡ true → tearTest s (x .head .edition) p ≡ true → (at : List ℕ) → PlainEvent s p x at false

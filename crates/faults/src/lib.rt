@@ -8,13 +8,10 @@ use format::field;
 use format::field::FIELD_BYTES;
 use sizes::PAIR_BYTES;
 ghost use mathlib.Core.Path.{_≡_};
-ghost use mathlib.Core.Bool.{true, cond};
 ghost use Prim.Native.Nat.{_-_};
-ghost use lib.Dec.{eqb};
-ghost use Rattle.content.specs.Content.{tearFits};
 ghost use Rattle.parse.specs.Parse.{placeOf, allowed, headFault, eventFaultBy, rowFault, pairFault, valueFaultBy};
 ghost use Rattle.entries.specs.Entries.{eventsIn, rowsIn, pairsIn, execution};
-ghost use Rattle.faults.specs.Faults.{roomBy, faultIn, endsTest, HeadTold, InitTold, OtherTold};
+ghost use Rattle.faults.specs.Faults.{roomBy, faultIn, endsTest, HeadTold, InitTold, OtherTold, tearTest};
 
 // The place of a refusal of a field, from its number and the place of the tag: made here and nowhere else.
 pub fn place_of(number: u8, tag: u16) -> u32
@@ -179,16 +176,6 @@ fn event_ends(s: &[u8], p: u16, edition: u8, a: Shape) -> bool
     exact & (p as usize + FIELD_BYTES + len <= s.len())
 }
 
-// The tear byte: edition 1 has none, and its rule gives one that fits.
-fn tear_clean(edition: u8, a: Shape) -> bool
-    ensures { λ r. ⌜ r ≡ cond (eqb edition 2) (tearFits a) true ⌝ }
-{
-    match edition {
-        2 => content::tear_fits(a),
-        _ => true,
-    }
-}
-
 // The field at p, behind a head or an init, as an init by itself. As below it is read by edition 2's layout.
 pub fn plain_init(s: &[u8], p: u16, x: Counts) -> bool
     ensures { λ r. ⌜ InitTold (now (s .entry)) p x r ⌝ }
@@ -206,8 +193,8 @@ pub fn plain_init(s: &[u8], p: u16, x: Counts) -> bool
     (here & fits) & (tear & (x.inits < MAX_INITS))
 }
 
-// The field at p, behind a head or an event, as an event that is no init. It is read by edition 2's layout, which has the tear byte as it
-// stands; at edition 1 no test here asks for it.
+// The field at p, behind a head or an event, as an event that is no init, but for its tear byte. It is read by edition 2's layout, which has the
+// tear byte as it stands; at edition 1 no test here asks for it.
 pub fn plain_event(s: &[u8], p: u16, x: Counts) -> bool
     ensures { λ r. ⌜ OtherTold (now (s .entry)) p x r ⌝ }
 {
@@ -218,12 +205,18 @@ pub fn plain_event(s: &[u8], p: u16, x: Counts) -> bool
     }
     let edition = x.head.edition;
     let a = entries::shape_at(s, 2, p);
-    let tear = tear_clean(edition, a);
-    if !tear {
-        return false;
-    }
     let fits = content::other_alone(x.head, entries::agent_at(s, p), a);
     let here = (field::byte(s, place) == 2) & event_ends(s, p, edition, a);
     let room = (x.events as u16) < x.inits as u16 + MAX_OTHERS as u16;
     here & (fits & room)
+}
+
+// The tear byte of the event at p: edition 1 has none, and its rule gives one that fits. A test of its own, so that most sheets pass it by one jump.
+pub fn tear_clean(s: &[u8], edition: u8, p: u16) -> bool
+    ensures { λ r. ⌜ r ≡ tearTest (now (s .entry)) edition p ⌝ }
+{
+    match edition {
+        2 => content::tear_fits(entries::shape_at(s, 2, p)),
+        _ => true,
+    }
 }

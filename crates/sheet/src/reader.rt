@@ -407,6 +407,15 @@ fn events(s: &[u8], spot: Spot, at: &mut [u16], t: &mut [u8]) -> Spot
                 t: k,
             };
         }
+        let whole = faults::tear_clean(s, h.edition, p);
+        if !whole {
+            return Spot {
+                p: p,
+                last: last,
+                x: behind(h, inits, n, p),
+                t: k,
+            };
+        }
         let next = next_at(s, p);
         k = take_event(s, h.edition, p, n, k, at, t);
         n = n + 1;

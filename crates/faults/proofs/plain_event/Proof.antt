@@ -1,6 +1,6 @@
--- `faults::plain_event` meets its contract: test by test; what passes is an event without a fault. Assumes nothing.
+-- `faults::plain_event` meets its contract: test by test; what passes is an event without a fault, where its tear byte fits. Assumes nothing.
 use denote.Ref.{now}
-use Rattle.faults.proofs.PlainLaws.{other-short, other-torn, other-all}
+use Rattle.faults.proofs.PlainLaws.{other-short, other-all}
 use borrow.Author.Needs.{needs}
 use Rattle.faults.proofs.plain_event.Statement.{statement}
 use Rattle.faults.proofs.plain_event.Tie as tie
@@ -13,12 +13,6 @@ returns c = other-short (now (c .before .before .args .s)) (c .before .before .a
 
 shape-at-requires : tie.Need-shape-at-requires
 shape-at-requires c κs = search needs
-
-tear-clean-requires : tie.Need-tear-clean-requires
-tear-clean-requires c κs = search needs
-
-returns-2 : tie.Need-returns-2
-returns-2 c = other-torn (now (c .before .before .before .before .before .args .s)) (c .before .before .before .before .before .args .p) (c .before .before .before .before .before .args .x) (c .before .before .before .if1 .left) (c .before .before .shape-at .result) (c .before .before .shape-at .ensures) (c .before .tear-clean .result) (c .before .tear-clean .ensures) (c .if2 .taken)
 
 agent-at-requires : tie.Need-agent-at-requires
 agent-at-requires c κs = search needs
@@ -44,8 +38,8 @@ cast-room-3 c = search needs
 add-room : tie.Need-add-room
 add-room c = search needs
 
-returns-3 : tie.Need-returns-3
-returns-3 c = other-all (now (c .before .before .before .before .before .before .before .before .before .before .before .args .s)) (c .before .before .before .before .before .before .before .before .before .before .before .args .p) (c .before .before .before .before .before .before .before .before .before .before .before .args .x) (c .before .before .before .before .before .before .before .before .before .if1 .left) (c .before .before .before .before .before .before .before .before .shape-at .result) (c .before .before .before .before .before .before .before .before .shape-at .ensures) (c .before .before .before .before .before .before .before .tear-clean .result) (c .before .before .before .before .before .before .before .tear-clean .ensures) (c .before .before .before .before .before .before .if2 .left) (c .before .before .before .before .before .agent-at .result) (c .before .before .before .byte .result) (c .before .before .before .before .before .agent-at .ensures) (c .before .before .before .byte .ensures) (c .before .before .event-ends .result) (c .before .before .before .before .other-alone .result) (c .before .before .event-ends .ensures) (c .before .before .before .before .other-alone .ensures)
+returns-2 : tie.Need-returns-2
+returns-2 c = other-all (now (c .before .before .before .before .before .before .before .before .before .args .s)) (c .before .before .before .before .before .before .before .before .before .args .p) (c .before .before .before .before .before .before .before .before .before .args .x) (c .before .before .before .before .before .before .before .if1 .left) (c .before .before .before .before .before .before .shape-at .result) (c .before .before .before .before .before .before .shape-at .ensures) (c .before .before .before .before .before .agent-at .result) (c .before .before .before .byte .result) (c .before .before .before .before .before .agent-at .ensures) (c .before .before .before .byte .ensures) (c .before .before .event-ends .result) (c .before .before .before .before .other-alone .result) (c .before .before .event-ends .ensures) (c .before .before .before .before .other-alone .ensures)
 
 pub plain-event-spec : {M : Type 1} → statement M
 plain-event-spec =
@@ -54,8 +48,6 @@ plain-event-spec =
     add-short
     returns
     shape-at-requires
-    tear-clean-requires
-    returns-2
     agent-at-requires
     other-alone-requires
     byte-requires
@@ -64,4 +56,4 @@ plain-event-spec =
     cast-room-2
     cast-room-3
     add-room
-    returns-3)
+    returns-2)

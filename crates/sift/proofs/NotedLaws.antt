@@ -20,11 +20,36 @@ use Rattle.cells.proofs.WalkLaws.{picked-none, picked-more}
 use Rattle.cells.proofs.CellsLaws.{placing-none, placing-more}
 use Rattle.tables.specs.Tables.{shapeIn}
 use Rattle.own.specs.Lone.{Lone}
-use Rattle.own.proofs.LoneLaws.{Gathered, gathered-none, gathered-more}
+use Rattle.torn.proofs.NoticedLaws.{or-nothing}
 use Rattle.alike.specs.Ranges.{scWrites}
 use Rattle.alike.specs.steps.Keys.{keyOf, Keyed}
 use Rattle.sift.specs.Clean.{wideOf}
 use Rattle.sift.specs.steps.Noted.{firstKey, NotedIn}
+
+-- ---- the widths of second accesses, gathered
+
+-- c has those below n
+record Gathered (t : List ℕ) (n c : ℕ) : Type 0 where
+  lone : c ≡ 0 → Lone t n
+  none : Lone t n → c ≡ 0
+
+gathered-none : (t : List ℕ) → Gathered t 0 0
+unfolding Lone
+gathered-none t = record { lone = λ h e l. absurd (omega (arith, l)); none = λ h. refl }
+
+gathered-more : (t : List ℕ) (n c w : ℕ) → Gathered t n c → w ≡ shapeIn t (2 * n + 1) .width → Gathered t (n + 1) (bitOr c w)
+unfolding Lone
+gathered-more t n c w g is =
+    record {
+      lone = λ h e l. let p = or-nothing c w h in go e l (p .0) (p .1) (ℕ-discrete e n);
+      none = λ h. (λ i. bitOr (g .none (λ e l. h e (omega arith)) i) ((is ∙ h n (omega arith)) i));
+    }
+  where
+    go : (e : ℕ) → e < n + 1 → c ≡ 0 → w ≡ 0 → Dec (e ≡ n) → shapeIn t (2 * e + 1) .width ≡ 0
+    go e l p q (yes z) = ap (λ (i : ℕ). shapeIn t (2 * i + 1) .width) z ∙ sym is ∙ q
+    go e l p q (no z) = g .lone p e (omega (arith, l, z))
+
+-- ---- event by event
 
 pub noted-none : (t l : List ℕ) → NotedIn t 0 l l 0 0 0 0
 noted-none t l =

@@ -1,7 +1,7 @@
 -- The laws of specs/Content.antt: a test that passed, as the facts that 01's sentence names. Assumes nothing.
 --     within-elim, within-holds, not-within     a number between two
 --     room-init, room-other         room for an init, for another event
---     SizedFacts, KindFacts, InitFacts, OtherFacts     what a shape that fits is
+--     SizedFacts, KindFacts, InitFacts, OtherFacts, kind-facts     what a shape that fits is
 --     formed-cases, formed-holds    a shape that is formed is an init's, or another's; and back
 --     TearFacts, tear-facts, tear-holds     a tear byte that fits, both ways       rule-fits     what 01's rule gives fits
 --     HeadFacts, head-facts, head-holds     a head that fits, both ways
@@ -92,7 +92,7 @@ pub data KindFacts (a : Shape) : Type 0 where
   both : a .kind ≡ 3 → a .mode ≡ 2 → SizedFacts a → KindFacts a
   a-marker : a .kind ≡ 4 → MarkerFacts a → KindFacts a
 
-kind-facts : (a : Shape) → kindFits a ≡ true → KindFacts a
+pub kind-facts : (a : Shape) → kindFits a ≡ true → KindFacts a
 unfolding kindFits sc
 kind-facts a h =
     ⊎-elim (λ p. a-read (eqb-true _ _ (p .0)) (sized-facts a (p .1)))

@@ -2,24 +2,26 @@
 --     by-width        the bits of the start below a width tell whether it divides the start
 --     table-at        what stands in a table, from one test of all of its entries
 --     listed-same     kind, mode, width and alignment by the set: they fit
+--     whole-same      01's rule for tear-free, of an event that fits: aligned, none of width 8 but sc, no marker
 use mathlib.Core.Path.{_≡_, refl, sym, ap, _∙_}
 use mathlib.Core.Bool.{Bool, true, false, cond}
 use mathlib.Core.List.{List, [], _∷_}
-use mathlib.Core.Logic.{_⊎_, inl, inr}
+use mathlib.Core.Logic.{_⊎_, inl, inr, ⊎-elim}
 use Prim.Native.Nat.{ℕ, zero, suc, _+_, _-_, _*_, _/_, _%_, _^_, _<_, _≤_}
 use native.Mathlib.Nat.{mod-eq-of-lt, eq-or-lt-of-le}
 use native.Mathlib.Omega.{arith}
-use borrow.Author.Tests.{eqb-true, ltb-true, ltb-false, ne-eqb}
+use borrow.Author.Tests.{eqb-true, eq-eqb, ltb-true, ltb-false, ne-eqb}
 use lib.Bits.{bitAnd, and-le-l, and-mod, and-mask}
 use lib.Dec.{eqb, ltb}
 use lib.ListN.{getD}
 use Rattle.basis.specs.Test.{_and_, _or_, non}
-use Rattle.basis.proofs.BoolLaws.{and-both, and-true, and-false}
+use Rattle.basis.proofs.BoolLaws.{T-true, and-both, and-holds, and-fails, and-true, and-false, or-either, or-holds, or-fails, both-hold, non-holds, non-fails}
 use Rattle.sets.specs.Mask.{mem}
 use Rattle.format.specs.declared.Shape.{Shape}
-use Rattle.format.specs.Shape.{sc, divides}
+use Rattle.format.specs.Shape.{marks, sc, divides, unbroken}
 use Rattle.content.specs.Content.{sized, kindFits}
 use Rattle.content.specs.steps.Widths.{widthsOf}
+use Rattle.content.proofs.ContentLaws.{SizedFacts, KindFacts, a-read, a-write, both, a-marker, kind-facts}
 
 -- ---- the alignment
 
@@ -206,3 +208,78 @@ module _ (a : Shape) (h : a .start < 256) where
       ≡ ((eqb (a .mode) 1 or eqb (a .mode) 2) and kindFits a)
   unfolding sc
   listed-same = ap (λ (b : Bool). b and (non (eqb (a .mode) 2) or even)) (small-same (a .kind) (a .mode) (a .width)) ∙ by-table
+
+-- ---- tear-free, where the rest fits
+
+module _ (k m st w : ℕ) (h : st < 256) where
+  abbrev rule : Bool
+  rule = non (eqb k 4) and (eqb m 2 or (eqb m 1 and unbroken w st))
+
+  abbrev code : Bool
+  code = eqb (bitAnd st (w + 255)) 0 and (eqb (bitAnd w (m * 8)) 0 and non (eqb k 4))
+
+  module _ (k4 : eqb k 4 ≡ false) where
+    sc-at : m ≡ 2 → (j : ℕ) → w ≡ 2 ^ j → (w + 255) % 256 ≡ 2 ^ j - 1 → eqb (bitAnd w (m * 8)) 0 ≡ true → divides w st ≡ true → code ≡ rule
+    sc-at em j e r c d =
+        both-hold _ _ (at-width st w h j e r ∙ d) (both-hold _ _ c (non-holds _ k4)) ∙ sym (both-hold _ _ (non-holds _ k4) (or-holds _ _ (eq-eqb m 2 em)))
+
+    free-at : m ≡ 1 → (j : ℕ) → w ≡ 2 ^ j → (w + 255) % 256 ≡ 2 ^ j - 1 → eqb (bitAnd w (m * 8)) 0 ≡ true → (eqb w 1 or eqb w 2 or eqb w 4) ≡ true → code ≡ rule
+    unfolding unbroken
+    free-at em j e r c u =
+        ap (λ (b : Bool). b and (eqb (bitAnd w (m * 8)) 0 and non (eqb k 4))) (at-width st w h j e r) ∙ ap (λ (b : Bool). divides w st and b) (both-hold _ _ c (non-holds _ k4)) ∙ and-true (divides w st)
+        ∙ sym (and-holds _ _ (non-holds _ k4) ∙ or-fails _ _ (ne-eqb m 2 (λ (o : m ≡ 2). omega arith)) ∙ and-holds _ _ (eq-eqb m 1 em) ∙ and-holds _ _ u)
+
+    eight-at : m ≡ 1 → w ≡ 8 → code ≡ rule
+    unfolding unbroken _or_ _and_
+    eight-at em e =
+        let c : eqb (bitAnd w (m * 8)) 0 ≡ false = rw (em, e) refl in
+        let u : unbroken w st ≡ false = rw e refl in
+        ap (λ (b : Bool). eqb (bitAnd st (w + 255)) 0 and b) (and-fails (eqb (bitAnd w (m * 8)) 0) (non (eqb k 4)) c) ∙ and-false (eqb (bitAnd st (w + 255)) 0)
+        ∙ sym (and-holds _ _ (non-holds _ k4) ∙ or-fails _ _ (ne-eqb m 2 (λ (o : m ≡ 2). omega arith)) ∙ and-holds _ _ (eq-eqb m 1 em) ∙ u)
+
+  marker-at : eqb k 4 ≡ true → code ≡ rule
+  marker-at k4 =
+      ap (λ (b : Bool). eqb (bitAnd st (w + 255)) 0 and b) (ap (λ (b : Bool). eqb (bitAnd w (m * 8)) 0 and b) (non-fails _ k4) ∙ and-false _) ∙ and-false _ ∙ sym (and-fails _ _ (non-fails _ k4))
+
+module _ (a : Shape) (h : a .start < 256) where
+  access-whole : eqb (a .kind) 4 ≡ false → SizedFacts a → (a .mode ≡ 1) ⊎ (a .mode ≡ 2) → code (a .kind) (a .mode) (a .start) (a .width) h ≡ rule (a .kind) (a .mode) (a .start) (a .width) h
+  unfolding _or_
+  access-whole k4 f (inr em) = go (f .width)
+    where
+      at : (j : ℕ) → a .width ≡ 2 ^ j → (a .width + 255) % 256 ≡ 2 ^ j - 1 → eqb (bitAnd (a .width) (a .mode * 8)) 0 ≡ true
+          → code (a .kind) (a .mode) (a .start) (a .width) h ≡ rule (a .kind) (a .mode) (a .start) (a .width) h
+      at j e r c = sc-at (a .kind) (a .mode) (a .start) (a .width) h k4 em j e r c (T-true _ (f .aligned em))
+
+      go : (a .width ≡ 1) ⊎ (a .width ≡ 2) ⊎ (a .width ≡ 4) ⊎ (a .width ≡ 8) → code (a .kind) (a .mode) (a .start) (a .width) h ≡ rule (a .kind) (a .mode) (a .start) (a .width) h
+      go (inl e) = at 0 e (reduced (a .start) (a .width) h 1 e) (rw (em, e) refl)
+      go (inr (inl e)) = at 1 e (reduced (a .start) (a .width) h 2 e) (rw (em, e) refl)
+      go (inr (inr (inl e))) = at 2 e (reduced (a .start) (a .width) h 4 e) (rw (em, e) refl)
+      go (inr (inr (inr e))) = at 3 e (reduced (a .start) (a .width) h 8 e) (rw (em, e) refl)
+  access-whole k4 f (inl em) = go (f .width)
+    where
+      at : (j : ℕ) → a .width ≡ 2 ^ j → (a .width + 255) % 256 ≡ 2 ^ j - 1 → eqb (bitAnd (a .width) (a .mode * 8)) 0 ≡ true → (eqb (a .width) 1 or eqb (a .width) 2 or eqb (a .width) 4) ≡ true
+          → code (a .kind) (a .mode) (a .start) (a .width) h ≡ rule (a .kind) (a .mode) (a .start) (a .width) h
+      at j e r c u = free-at (a .kind) (a .mode) (a .start) (a .width) h k4 em j e r c u
+
+      go : (a .width ≡ 1) ⊎ (a .width ≡ 2) ⊎ (a .width ≡ 4) ⊎ (a .width ≡ 8) → code (a .kind) (a .mode) (a .start) (a .width) h ≡ rule (a .kind) (a .mode) (a .start) (a .width) h
+      go (inl e) = at 0 e (reduced (a .start) (a .width) h 1 e) (rw (em, e) refl) (rw e refl)
+      go (inr (inl e)) = at 1 e (reduced (a .start) (a .width) h 2 e) (rw (em, e) refl) (rw e refl)
+      go (inr (inr (inl e))) = at 2 e (reduced (a .start) (a .width) h 4 e) (rw (em, e) refl) (rw e refl)
+      go (inr (inr (inr e))) = eight-at (a .kind) (a .mode) (a .start) (a .width) h k4 em e
+
+  pub whole-same : ((eqb (a .mode) 1 or eqb (a .mode) 2) and kindFits a) ≡ true
+      → (eqb (bitAnd (a .start) (a .width + 255)) 0 and (eqb (bitAnd (a .width) (a .mode * 8)) 0 and non (marks a))) ≡ (non (eqb (a .kind) 4) and (eqb (a .mode) 2 or (eqb (a .mode) 1 and unbroken (a .width) (a .start))))
+  unfolding marks
+  whole-same f = go (kind-facts a (v .1))
+    where
+      v : ((eqb (a .mode) 1 or eqb (a .mode) 2) ≡ true) × (kindFits a ≡ true)
+      v = and-both (eqb (a .mode) 1 or eqb (a .mode) 2) (kindFits a) f
+
+      m : (a .mode ≡ 1) ⊎ (a .mode ≡ 2)
+      m = ⊎-elim (λ p. inl (eqb-true _ _ p)) (λ p. inr (eqb-true _ _ p)) (or-either (eqb (a .mode) 1) (eqb (a .mode) 2) (v .0))
+
+      go : KindFacts a → code (a .kind) (a .mode) (a .start) (a .width) h ≡ rule (a .kind) (a .mode) (a .start) (a .width) h
+      go (a-read e z) = access-whole (ne-eqb _ _ (λ (o : a .kind ≡ 4). omega (arith, e, o))) z m
+      go (a-write e z) = access-whole (ne-eqb _ _ (λ (o : a .kind ≡ 4). omega (arith, e, o))) z m
+      go (both e n z) = access-whole (ne-eqb _ _ (λ (o : a .kind ≡ 4). omega (arith, e, o))) z m
+      go (a-marker e z) = marker-at (a .kind) (a .mode) (a .start) (a .width) h (eq-eqb _ _ e)

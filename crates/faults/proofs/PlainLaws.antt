@@ -213,11 +213,18 @@ init-told s p x r e =
     }
 
 other-told : (s : List ℕ) (p : ℕ) (x : Counts) (r : Bool) → r ≡ otherTest s p x → OtherTold s p x r
-unfolding otherTest tearTest
+unfolding otherTest tearTest otherFormed
 other-told s p x r e =
     record {
       is = e;
       front = λ h. leb-true _ _ (and-both (leb (p + frontBytes) (length s)) _ (sym e ∙ h) .0);
+      fits = λ h.
+          let b = shapeOf 2 (restAt s p) in
+          let v = and-both (leb (p + frontBytes) (length s)) _ (sym e ∙ h) in
+          let w = and-both (eqb (tagAt s p) 2 and endsTest s p (x .head .edition) b) _ (v .1) in
+          let o = and-both (inside (x .head .size) b and ((eqb (b .mode) 1 or eqb (b .mode) 2) and (within 1 (x .head .agents) (agentOf (restAt s p)) and kindFits b))) _ (w .1) .0 in
+          let m = and-both (eqb (b .mode) 1 or eqb (b .mode) 2) _ (and-both (inside (x .head .size) b) _ o .1) in
+          both-hold _ _ (m .0) (and-both (within 1 (x .head .agents) (agentOf (restAt s p))) (kindFits b) (m .1) .1);
       clean = λ h f at.
           let b = shapeOf 2 (restAt s p) in
           let v = and-both (leb (p + frontBytes) (length s)) _ (sym e ∙ h) in

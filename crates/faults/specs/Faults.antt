@@ -24,7 +24,7 @@ use Rattle.format.specs.Limits.{maxInits, maxOthers}
 use Rattle.format.specs.Execution.{inits}
 use Rattle.format.specs.Field.{fieldBytes, tagAt, lengthAt, nextAt, valueAt, restAt}
 use Rattle.format.specs.Layout.{eventBytes, dataBytes, agentOf, shapeOf}
-use Rattle.content.specs.Content.{within, inside, initFormed, otherFormed, tearFits, standsFirst, roomIn}
+use Rattle.content.specs.Content.{within, inside, kindFits, initFormed, otherFormed, tearFits, standsFirst, roomIn}
 use Rattle.parse.specs.Parse.{State, headFault, faultBy}
 use Rattle.entries.specs.declared.Counts.{Counts}
 use Rattle.entries.specs.Entries.{eventsIn, execution}
@@ -101,4 +101,5 @@ pub record InitTold (s : List ℕ) (p : ℕ) (x : Counts) (r : Bool) : Type 0 wh
 pub record OtherTold (s : List ℕ) (p : ℕ) (x : Counts) (r : Bool) : Type 0 where
   pub is : r ≡ otherTest s p x
   pub front : r ≡ true → p + frontBytes ≤ length s
+  pub fits : r ≡ true → ((eqb (shapeOf 2 (restAt s p) .mode) 1 or eqb (shapeOf 2 (restAt s p) .mode) 2) and kindFits (shapeOf 2 (restAt s p))) ≡ true
   pub clean : r ≡ true → tearTest s (x .head .edition) p ≡ true → (at : List ℕ) → PlainEvent s p x at false

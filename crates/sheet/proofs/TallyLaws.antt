@@ -2,6 +2,7 @@
 --     tallied-start, tally-next     of no event; behind one field more
 --     tally-made, tally-any         with one event more, as the code makes it; by any edition
 --     by-test, at-most              a number, or nothing
+--     tear-number                   a test as a number: 01's rule for tear-free
 --     tally-room                    room for one event's bytes more
 --     told-some                     where bytes are read, some event reads
 --     told-missing                  agents that the head promises and that have no event
@@ -17,14 +18,14 @@ use mir.Val.{boolByte}
 use borrow.Author.Tests.{eqb-true, eqb-false, ltb-false, ne-eqb}
 use lib.Dec.{eqb, ltb}
 use lib.ListN.{length, length-append}
-use Rattle.basis.specs.Test.{_or_, any}
+use Rattle.basis.specs.Test.{_and_, _or_, non, any}
 use Rattle.basis.proofs.BoolLaws.{or-none, bar-or, and-parts, eqb-swap, T-true}
 use Rattle.basis.proofs.LoopLaws.{any-snoc}
 use Rattle.sets.specs.Tells.{Tells}
 use Rattle.sets.specs.Mask.{slots, mem, Has, Within, insert, remove, full}
 use Rattle.sets.proofs.MaskLaws.{mem-empty, mem-insert, mem-remove, mem-full, full-has}
 use Rattle.format.specs.Limits.{maxBytes}
-use Rattle.format.specs.Shape.{reads}
+use Rattle.format.specs.Shape.{reads, unbroken, tearOf}
 use Rattle.format.specs.Event.{Event, readsSome}
 use Rattle.format.specs.Execution.{Execution}
 use Rattle.format.specs.Field.{tagAt, nextAt, valueAt, restAt}
@@ -99,6 +100,19 @@ by-test false w = zero-mul w
 pub at-most : (b : Bool) (w : ℕ) → w ≤ 255 → cond b w 0 ≤ 255
 at-most true w h = h
 at-most false w h = omega arith
+
+-- a test as a number: 01's rule for tear-free
+pub tear-number : (b : Bool) (kind mode start width : ℕ) → b ≡ (non (eqb kind 4) and (eqb mode 2 or (eqb mode 1 and unbroken width start)))
+    → boolByte b ≡ tearOf kind mode start width
+unfolding tearOf
+tear-number b kind mode start width e = go b ∙ ap one e
+  where
+    one : Bool → ℕ
+    one c = cond c 1 0
+
+    go : (c : Bool) → boolByte c ≡ one c
+    go true = refl
+    go false = refl
 
 module _ (x : Execution) (tag : ℕ) (v : List ℕ) where
   taken-event : eqb tag 2 ≡ true → taken x tag v .events ≡ x .events ++ (eventOf (x .head .edition) v ∷ [])

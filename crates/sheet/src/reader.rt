@@ -26,7 +26,7 @@ ghost use lib.ListN.{length, getD, replicate, set};
 ghost use Rattle.basis.specs.Test.{any};
 ghost use Rattle.sets.specs.Mask.{slots, insert};
 ghost use Rattle.format.specs.Limits.{maxBytes};
-ghost use Rattle.format.specs.Shape.{reads};
+ghost use Rattle.format.specs.Shape.{reads, tearOf};
 ghost use Rattle.format.specs.Event.{readsSome};
 ghost use Rattle.format.specs.Field.{tagAt, nextAt, restAt};
 ghost use Rattle.format.specs.Layout.{shapeOf, rowGap};
@@ -39,7 +39,7 @@ ghost use Rattle.sheet.specs.Filled.{Filled};
 ghost use Rattle.tables.specs.Tables.{putting};
 ghost use Rattle.row_data.specs.RowData.{dataAt, passed};
 ghost use Rattle.faults.specs.Faults.{view, frontBytes};
-ghost use Rattle.sheet.specs.steps.Between.{Ready, Advanced, Turn, Tallied, tallyWith, Stands, Tabled, Carried, Grown, Shaped, TakenEvent, Lined, FirstTold, KnownRow, JoinedRow, TakenRow, withHead, behind, withEvent, withRow, withRows, withPair, Through, Scanned, parsedOf, refusal};
+ghost use Rattle.sheet.specs.steps.Between.{Ready, Advanced, Turn, Tallied, tallyWith, Stands, Tabled, Carried, Grown, Shaped, TakenEvent, Fitting, Lined, FirstTold, KnownRow, JoinedRow, TakenRow, withHead, behind, withEvent, withRow, withRows, withPair, Through, Scanned, parsedOf, refusal};
 
 // ---- the counts behind a field
 
@@ -301,14 +301,50 @@ fn shape_here(s: &[u8], edition: u8, p: u16) -> Shape
     layout::shape_of(edition, &s[start..end])
 }
 
-// Takes the event at p, without a fault, as event n: into the places, the table and the tally.
-fn take_event(s: &[u8], edition: u8, p: u16, n: u8, k: Tally, at: &mut [u16], t: &mut [u8]) -> Tally
-    requires { ⌜ (p + frontBytes ≤ length (now s)) × (n < slots) × (length (now at) ≡ slots) × (k .bytes < maxBytes * 2) ⌝ }
+// 01's rule for tear-free, of an event that fits: none of width 8 is but an sc one, whose mode has no bit of it.
+fn tear_plain(a: Shape) -> u8
+    requires { ⌜ Fitting a ⌝ }
+    ensures { λ r. ⌜ r ≡ tearOf (a .kind) (a .mode) (a .start) (a .width) ⌝ }
+{
+    let aligned = a.start as u16 & (a.width as u16 + 255) == 0;
+    let narrow = a.width as u16 & (a.mode as u16 * 8) == 0;
+    (aligned & (narrow & !access::marks(a))) as u8
+}
+
+// The shape of the event at a place, which fits.
+fn shape_plain(s: &[u8], edition: u8, p: u16) -> Shape
+    requires { ⌜ (p + 9 ≤ length (now s)) × Fitting (shapeOf 2 (restAt (now s) p)) ⌝ }
+    ensures { λ r. ⌜ r ≡ shapeOf edition (restAt (now (s .entry)) p) ⌝ }
+{
+    let a = shape_here(s, 2, p);
+    match edition {
+        2 => a,
+        _ => Shape {
+            kind: a.kind,
+            mode: a.mode,
+            start: a.start,
+            width: a.width,
+            tear: tear_plain(a),
+        },
+    }
+}
+
+// Takes the event at p, without a fault and of shape a, as event n: into the places, the table and the tally.
+fn take_event(
+    s: &[u8],
+    edition: u8,
+    p: u16,
+    n: u8,
+    a: Shape,
+    k: Tally,
+    at: &mut [u16],
+    t: &mut [u8],
+) -> Tally
+    requires { ⌜ (p + frontBytes ≤ length (now s)) × (n < slots) × (length (now at) ≡ slots) × (k .bytes < maxBytes * 2) × (a ≡ shapeOf edition (restAt (now s) p)) ⌝ }
     ensures { λ r. ⌜ TakenEvent (now (s .entry)) edition p n k (now (at .entry)) (now (t .entry)) r (now (at .exit)) (now (t .exit)) ⌝ }
 {
     let place = p as usize + FIELD_BYTES;
     let agent = s[place];
-    let a = shape_here(s, edition, p);
     lay_event(p, n, agent, a, at, t);
     Tally {
         bytes: k.bytes + read_width(a),
@@ -370,7 +406,8 @@ fn inits(s: &[u8], spot: Spot, at: &mut [u16], t: &mut [u8]) -> Spot
         }
         let next = next_at(s, p);
         high = end_of(s, p, high);
-        k = take_event(s, h.edition, p, n, k, at, t);
+        let a = shape_here(s, h.edition, p);
+        k = take_event(s, h.edition, p, n, a, k, at, t);
         n = n + 1;
         last = 2;
         p = next;
@@ -417,7 +454,8 @@ fn events(s: &[u8], spot: Spot, at: &mut [u16], t: &mut [u8]) -> Spot
             };
         }
         let next = next_at(s, p);
-        k = take_event(s, h.edition, p, n, k, at, t);
+        let a = shape_plain(s, h.edition, p);
+        k = take_event(s, h.edition, p, n, a, k, at, t);
         n = n + 1;
         last = 2;
         p = next;

@@ -7,6 +7,7 @@
 --     Tabled, Carried               the tables hold the events and rows so far; they do so afterwards
 --     Grown, Shaped                 the table of accesses has grown with the events; their shapes stand in it
 --     TakenEvent                    an event has been taken into the places, the table and the tally
+--     Fitting                       a shape is that of an event that is no init
 --     Clear, Lined, FirstTold       no event so far lies at `high` or behind; all are inits; the test of an init
 --     KnownRow, JoinedRow           the tests of a row
 --     PlainRow, TakenRow            the field at p is a row without a fault, behind an event or a row; it has been taken
@@ -19,7 +20,7 @@ use mathlib.Core.List.{List}
 use Prim.Native.Nat.{ℕ, suc, _+_, _-_, _*_, _<_, _≤_}
 use lib.Dec.{eqb, ltb}
 use lib.ListN.{length, getD, drop, replicate, set}
-use Rattle.basis.specs.Test.{_and_, any, all}
+use Rattle.basis.specs.Test.{_and_, _or_, any, all}
 use Rattle.format.specs.declared.Head.{Head}
 use Rattle.format.specs.declared.Shape.{Shape}
 use Rattle.format.specs.declared.Row.{Row}
@@ -37,7 +38,7 @@ use Rattle.sheet.specs.declared.Scan.the-variants.{Stopped, Ended}
 use Rattle.sheet.specs.declared.Tally.{Tally}
 use Rattle.sheet.specs.declared.Spot.{Spot}
 use Rattle.sheet.specs.declared.Read.{Read}
-use Rattle.content.specs.Content.{within, standsFirst}
+use Rattle.content.specs.Content.{within, kindFits, standsFirst}
 use Rattle.parse.specs.Parse.{Parsed, State, refused, whole, blank, faultAt, after, appears, finish, fieldsFrom, parse}
 use Rattle.entries.specs.declared.Counts.{Counts}
 use Rattle.entries.specs.Entries.{eventAt, eventsIn}
@@ -128,6 +129,10 @@ pub record TakenEvent (s : List ℕ) (edition p n : ℕ) (k : Tally) (at t : Lis
   pub table : t′ ≡ eventPut s edition p n t
   pub tally : k′ ≡ tallyWith k (eventAt s 2 p)
   pub small : k′ .bytes ≤ k .bytes + 255
+
+-- the shape of an event that is no init
+abbrev pub Fitting : Shape → Type 0
+Fitting a = ((eqb (a .mode) 1 or eqb (a .mode) 2) and kindFits a) ≡ true
 
 -- what starts at `high` or behind meets no event
 abbrev pub Clear : List Event → ℕ → Type 0

@@ -69,17 +69,20 @@ returns-3 c = rw (c .behind3 .ensures) (growing-end (now (c .before .before .bef
 next-at-requires : tie.Need-next-at-requires Inv-loop μ-loop
 next-at-requires c κs = growing-reach (now (c .before .before .before .before .before .before .before .before .before .before .before .before .before .before .args .s)) (c .before .before .before .before .before .before .before .before .before .before .before .before .before .before .args .spot .x .head) (c .before .before .before .before .before .before .before .before .before .before .before .before .before .before .args .spot .x .inits) (c .before .before .before .before .before .before .before .before .before .before .before .before .before .before .args .spot .x .events) (c .before .before .before .before .before .before .before .before .before .before .before .before .before .before .args .spot .p) (now (c .before .before .before .before .before .before .before .before .before .before .before .before .before .before .args .at)) (now (c .before .before .before .before .before .before .before .before .before .before .before .before .before .before .args .t)) (c .before .before .before .before .before .before .before .before .before .before .before .before .before .before .args .spot .x .inits) (c .before .before .before .before .before .before .loop .n) (c .before .before .before .before .before .before .loop .k) (c .before .before .before .before .before .before .loop .last) (c .before .before .before .before .before .before .loop .p) (c .before .before .before .before .before .before .loop .at) (c .before .before .before .before .before .before .loop .t) (c .before .before .before .before .before .before .loop .inv) false ((rw (c .before .before .before .before .behind .ensures) at (c .before .before .before .plain-event .ensures)) .clean (not-false _ (c .before .before .if2 .left)) (sym (c .before .tear-clean .ensures) ∙ not-false _ (c .if3 .left)) (c .before .before .before .before .before .before .loop .at))
 
+shape-plain-requires : tie.Need-shape-plain-requires Inv-loop μ-loop
+shape-plain-requires c κs = (growing-few (now (c .before .before .before .before .before .before .before .before .before .before .before .before .before .before .before .args .s)) (c .before .before .before .before .before .before .before .before .before .before .before .before .before .before .before .args .spot .x .head) (c .before .before .before .before .before .before .before .before .before .before .before .before .before .before .before .args .spot .x .inits) (c .before .before .before .before .before .before .before .before .before .before .before .before .before .before .before .args .spot .x .events) (c .before .before .before .before .before .before .before .before .before .before .before .before .before .before .before .args .spot .p) (now (c .before .before .before .before .before .before .before .before .before .before .before .before .before .before .before .args .at)) (now (c .before .before .before .before .before .before .before .before .before .before .before .before .before .before .before .args .t)) (c .before .before .before .before .before .before .before .before .before .before .before .before .before .before .before .args .spot .x .inits) (c .before .before .before .before .before .before .before .loop .n) (c .before .before .before .before .before .before .before .loop .k) (c .before .before .before .before .before .before .before .loop .last) (c .before .before .before .before .before .before .before .loop .p) (c .before .before .before .before .before .before .before .loop .at) (c .before .before .before .before .before .before .before .loop .t) (c .before .before .before .before .before .before .before .loop .inv) false ((rw (c .before .before .before .before .before .behind .ensures) at (c .before .before .before .before .plain-event .ensures)) .clean (not-false _ (c .before .before .before .if2 .left)) (sym (c .before .before .tear-clean .ensures) ∙ not-false _ (c .before .if3 .left)) (c .before .before .before .before .before .before .before .loop .at)) .0, c .before .before .before .before .plain-event .ensures .fits (not-false _ (c .before .before .before .if2 .left)))
+
 take-event-requires : tie.Need-take-event-requires Inv-loop μ-loop
-take-event-requires c κs = growing-few (now (c .before .before .before .before .before .before .before .before .before .before .before .before .before .before .before .before .before .args .s)) (c .before .before .before .before .before .before .before .before .before .before .before .before .before .before .before .before .before .args .spot .x .head) (c .before .before .before .before .before .before .before .before .before .before .before .before .before .before .before .before .before .args .spot .x .inits) (c .before .before .before .before .before .before .before .before .before .before .before .before .before .before .before .before .before .args .spot .x .events) (c .before .before .before .before .before .before .before .before .before .before .before .before .before .before .before .before .before .args .spot .p) (now (c .before .before .before .before .before .before .before .before .before .before .before .before .before .before .before .before .before .args .at)) (now (c .before .before .before .before .before .before .before .before .before .before .before .before .before .before .before .before .before .args .t)) (c .before .before .before .before .before .before .before .before .before .before .before .before .before .before .before .before .before .args .spot .x .inits) (c .before .before .before .before .before .before .before .before .before .loop .n) (c .before .before .before .before .before .before .before .before .before .loop .k) (c .before .before .before .before .before .before .before .before .before .loop .last) (c .before .before .before .before .before .before .before .before .before .loop .p) (c .before .before .before .before .before .before .before .before .before .loop .at) (c .before .before .before .before .before .before .before .before .before .loop .t) (c .before .before .before .before .before .before .before .before .before .loop .inv) false ((rw (c .before .before .before .before .before .before .before .behind .ensures) at (c .before .before .before .before .before .before .plain-event .ensures)) .clean (not-false _ (c .before .before .before .before .before .if2 .left)) (sym (c .before .before .before .before .tear-clean .ensures) ∙ not-false _ (c .before .before .before .if3 .left)) (c .before .before .before .before .before .before .before .before .before .loop .at))
+take-event-requires c κs = let f = growing-few (now (c .before .before .before .before .before .before .before .before .before .before .before .before .before .before .before .before .before .before .args .s)) (c .before .before .before .before .before .before .before .before .before .before .before .before .before .before .before .before .before .before .args .spot .x .head) (c .before .before .before .before .before .before .before .before .before .before .before .before .before .before .before .before .before .before .args .spot .x .inits) (c .before .before .before .before .before .before .before .before .before .before .before .before .before .before .before .before .before .before .args .spot .x .events) (c .before .before .before .before .before .before .before .before .before .before .before .before .before .before .before .before .before .before .args .spot .p) (now (c .before .before .before .before .before .before .before .before .before .before .before .before .before .before .before .before .before .before .args .at)) (now (c .before .before .before .before .before .before .before .before .before .before .before .before .before .before .before .before .before .before .args .t)) (c .before .before .before .before .before .before .before .before .before .before .before .before .before .before .before .before .before .before .args .spot .x .inits) (c .before .before .before .before .before .before .before .before .before .before .loop .n) (c .before .before .before .before .before .before .before .before .before .before .loop .k) (c .before .before .before .before .before .before .before .before .before .before .loop .last) (c .before .before .before .before .before .before .before .before .before .before .loop .p) (c .before .before .before .before .before .before .before .before .before .before .loop .at) (c .before .before .before .before .before .before .before .before .before .before .loop .t) (c .before .before .before .before .before .before .before .before .before .before .loop .inv) false ((rw (c .before .before .before .before .before .before .before .before .behind .ensures) at (c .before .before .before .before .before .before .before .plain-event .ensures)) .clean (not-false _ (c .before .before .before .before .before .before .if2 .left)) (sym (c .before .before .before .before .before .tear-clean .ensures) ∙ not-false _ (c .before .before .before .before .if3 .left)) (c .before .before .before .before .before .before .before .before .before .before .loop .at)) in (f .0, f .1, f .2, f .3, c .before .before .shape-plain .ensures)
 
 add-n : tie.Need-add-n Inv-loop μ-loop
-add-n c = let f = growing-few (now (c .before .before .before .before .before .before .before .before .before .before .before .before .before .before .before .before .before .before .before .before .before .before .args .s)) (c .before .before .before .before .before .before .before .before .before .before .before .before .before .before .before .before .before .before .before .before .before .before .args .spot .x .head) (c .before .before .before .before .before .before .before .before .before .before .before .before .before .before .before .before .before .before .before .before .before .before .args .spot .x .inits) (c .before .before .before .before .before .before .before .before .before .before .before .before .before .before .before .before .before .before .before .before .before .before .args .spot .x .events) (c .before .before .before .before .before .before .before .before .before .before .before .before .before .before .before .before .before .before .before .before .before .before .args .spot .p) (now (c .before .before .before .before .before .before .before .before .before .before .before .before .before .before .before .before .before .before .before .before .before .before .args .at)) (now (c .before .before .before .before .before .before .before .before .before .before .before .before .before .before .before .before .before .before .before .before .before .before .args .t)) (c .before .before .before .before .before .before .before .before .before .before .before .before .before .before .before .before .before .before .before .before .before .before .args .spot .x .inits) (c .before .before .before .before .before .before .before .before .before .before .before .before .before .before .loop .n) (c .before .before .before .before .before .before .before .before .before .before .before .before .before .before .loop .k) (c .before .before .before .before .before .before .before .before .before .before .before .before .before .before .loop .last) (c .before .before .before .before .before .before .before .before .before .before .before .before .before .before .loop .p) (c .before .before .before .before .before .before .before .before .before .before .before .before .before .before .loop .at) (c .before .before .before .before .before .before .before .before .before .before .before .before .before .before .loop .t) (c .before .before .before .before .before .before .before .before .before .before .before .before .before .before .loop .inv) false ((rw (c .before .before .before .before .before .before .before .before .before .before .before .before .behind .ensures) at (c .before .before .before .before .before .before .before .before .before .before .before .plain-event .ensures)) .clean (not-false _ (c .before .before .before .before .before .before .before .before .before .before .if2 .left)) (sym (c .before .before .before .before .before .before .before .before .before .tear-clean .ensures) ∙ not-false _ (c .before .before .before .before .before .before .before .before .if3 .left)) (c .before .before .before .before .before .before .before .before .before .before .before .before .before .before .loop .at)) in omega (arith, f .1)
+add-n c = let f = growing-few (now (c .before .before .before .before .before .before .before .before .before .before .before .before .before .before .before .before .before .before .before .before .before .before .before .args .s)) (c .before .before .before .before .before .before .before .before .before .before .before .before .before .before .before .before .before .before .before .before .before .before .before .args .spot .x .head) (c .before .before .before .before .before .before .before .before .before .before .before .before .before .before .before .before .before .before .before .before .before .before .before .args .spot .x .inits) (c .before .before .before .before .before .before .before .before .before .before .before .before .before .before .before .before .before .before .before .before .before .before .before .args .spot .x .events) (c .before .before .before .before .before .before .before .before .before .before .before .before .before .before .before .before .before .before .before .before .before .before .before .args .spot .p) (now (c .before .before .before .before .before .before .before .before .before .before .before .before .before .before .before .before .before .before .before .before .before .before .before .args .at)) (now (c .before .before .before .before .before .before .before .before .before .before .before .before .before .before .before .before .before .before .before .before .before .before .before .args .t)) (c .before .before .before .before .before .before .before .before .before .before .before .before .before .before .before .before .before .before .before .before .before .before .before .args .spot .x .inits) (c .before .before .before .before .before .before .before .before .before .before .before .before .before .before .before .loop .n) (c .before .before .before .before .before .before .before .before .before .before .before .before .before .before .before .loop .k) (c .before .before .before .before .before .before .before .before .before .before .before .before .before .before .before .loop .last) (c .before .before .before .before .before .before .before .before .before .before .before .before .before .before .before .loop .p) (c .before .before .before .before .before .before .before .before .before .before .before .before .before .before .before .loop .at) (c .before .before .before .before .before .before .before .before .before .before .before .before .before .before .before .loop .t) (c .before .before .before .before .before .before .before .before .before .before .before .before .before .before .before .loop .inv) false ((rw (c .before .before .before .before .before .before .before .before .before .before .before .before .before .behind .ensures) at (c .before .before .before .before .before .before .before .before .before .before .before .before .plain-event .ensures)) .clean (not-false _ (c .before .before .before .before .before .before .before .before .before .before .before .if2 .left)) (sym (c .before .before .before .before .before .before .before .before .before .before .tear-clean .ensures) ∙ not-false _ (c .before .before .before .before .before .before .before .before .before .if3 .left)) (c .before .before .before .before .before .before .before .before .before .before .before .before .before .before .before .loop .at)) in omega (arith, f .1)
 
 loop-less : tie.Need-loop-less Inv-loop μ-loop
 loop-less c = search needs
 
 loop-again : tie.Need-loop-again Inv-loop μ-loop
-loop-again c = rw (c .before .before .before .before .before .before .before .next-at .ensures) (growing-next (now (c .before .before .before .before .before .before .before .before .before .before .before .before .before .before .before .before .before .before .before .before .before .before .args .s)) (c .before .before .before .before .before .before .before .before .before .before .before .before .before .before .before .before .before .before .before .before .before .before .args .spot .x .head) (c .before .before .before .before .before .before .before .before .before .before .before .before .before .before .before .before .before .before .before .before .before .before .args .spot .x .inits) (c .before .before .before .before .before .before .before .before .before .before .before .before .before .before .before .before .before .before .before .before .before .before .args .spot .x .events) (c .before .before .before .before .before .before .before .before .before .before .before .before .before .before .before .before .before .before .before .before .before .before .args .spot .p) (now (c .before .before .before .before .before .before .before .before .before .before .before .before .before .before .before .before .before .before .before .before .before .before .args .at)) (now (c .before .before .before .before .before .before .before .before .before .before .before .before .before .before .before .before .before .before .before .before .before .before .args .t)) (c .before .before .before .before .before .before .before .before .before .before .before .before .before .before .before .before .before .before .before .before .before .before .args .spot .x .inits) (c .before .before .before .before .before .before .before .before .before .before .before .before .before .before .loop .n) (c .before .before .before .before .before .before .before .before .before .before .before .before .before .before .loop .k) (c .before .before .before .before .before .before .before .before .before .before .before .before .before .before .loop .last) (c .before .before .before .before .before .before .before .before .before .before .before .before .before .before .loop .p) (c .before .before .before .before .before .before .before .before .before .before .before .before .before .before .loop .at) (c .before .before .before .before .before .before .before .before .before .before .before .before .before .before .loop .t) (c .before .before .before .before .before .before .before .before .before .before .before .before .before .before .loop .inv) false ((rw (c .before .before .before .before .before .before .before .before .before .before .before .before .behind .ensures) at (c .before .before .before .before .before .before .before .before .before .before .before .plain-event .ensures)) .clean (not-false _ (c .before .before .before .before .before .before .before .before .before .before .if2 .left)) (sym (c .before .before .before .before .before .before .before .before .before .tear-clean .ensures) ∙ not-false _ (c .before .before .before .before .before .before .before .before .if3 .left)) (c .before .before .before .before .before .before .before .before .before .before .before .before .before .before .loop .at)) 1 refl (c .before .before .before .before .before .before .before .before .before .before .before .before .before .loop-test .taken) (c .before .before .before .before .take-event .result) _ _ (c .before .before .before .before .take-event .ensures))
+loop-again c = rw (c .before .before .before .before .before .before .before .before .next-at .ensures) (growing-next (now (c .before .before .before .before .before .before .before .before .before .before .before .before .before .before .before .before .before .before .before .before .before .before .before .args .s)) (c .before .before .before .before .before .before .before .before .before .before .before .before .before .before .before .before .before .before .before .before .before .before .before .args .spot .x .head) (c .before .before .before .before .before .before .before .before .before .before .before .before .before .before .before .before .before .before .before .before .before .before .before .args .spot .x .inits) (c .before .before .before .before .before .before .before .before .before .before .before .before .before .before .before .before .before .before .before .before .before .before .before .args .spot .x .events) (c .before .before .before .before .before .before .before .before .before .before .before .before .before .before .before .before .before .before .before .before .before .before .before .args .spot .p) (now (c .before .before .before .before .before .before .before .before .before .before .before .before .before .before .before .before .before .before .before .before .before .before .before .args .at)) (now (c .before .before .before .before .before .before .before .before .before .before .before .before .before .before .before .before .before .before .before .before .before .before .before .args .t)) (c .before .before .before .before .before .before .before .before .before .before .before .before .before .before .before .before .before .before .before .before .before .before .before .args .spot .x .inits) (c .before .before .before .before .before .before .before .before .before .before .before .before .before .before .before .loop .n) (c .before .before .before .before .before .before .before .before .before .before .before .before .before .before .before .loop .k) (c .before .before .before .before .before .before .before .before .before .before .before .before .before .before .before .loop .last) (c .before .before .before .before .before .before .before .before .before .before .before .before .before .before .before .loop .p) (c .before .before .before .before .before .before .before .before .before .before .before .before .before .before .before .loop .at) (c .before .before .before .before .before .before .before .before .before .before .before .before .before .before .before .loop .t) (c .before .before .before .before .before .before .before .before .before .before .before .before .before .before .before .loop .inv) false ((rw (c .before .before .before .before .before .before .before .before .before .before .before .before .before .behind .ensures) at (c .before .before .before .before .before .before .before .before .before .before .before .before .plain-event .ensures)) .clean (not-false _ (c .before .before .before .before .before .before .before .before .before .before .before .if2 .left)) (sym (c .before .before .before .before .before .before .before .before .before .before .tear-clean .ensures) ∙ not-false _ (c .before .before .before .before .before .before .before .before .before .if3 .left)) (c .before .before .before .before .before .before .before .before .before .before .before .before .before .before .before .loop .at)) 1 refl (c .before .before .before .before .before .before .before .before .before .before .before .before .before .before .loop-test .taken) (c .before .before .before .before .take-event .result) _ _ (c .before .before .before .before .take-event .ensures))
 
 behind-requires-4 : tie.Need-behind-requires-4 Inv-loop μ-loop
 behind-requires-4 c κs = search needs
@@ -115,6 +118,7 @@ events-spec =
     same-length-4
     returns-3
     next-at-requires
+    shape-plain-requires
     take-event-requires
     add-n
     loop-less

@@ -19,9 +19,6 @@ add-place c = search needs
 shared-slice-read-agent : tie.Need-shared-slice-read-agent
 shared-slice-read-agent c = search needs
 
-shape-here-requires : tie.Need-shape-here-requires
-shape-here-requires c κs = search needs
-
 lay-event-requires : tie.Need-lay-event-requires
 lay-event-requires c κs = search needs
 
@@ -42,15 +39,15 @@ same-length-2 c = search needs
 
 returns : tie.Need-returns
 returns c =
-    let a = c .before .before .before .before .before .before .before .before .before .before .before .before .before .before .before .args in
+    let a = c .before .before .before .before .before .before .before .before .before .before .before .before .before .before .args in
     let s = now (a .s) in
     let i : a .p + fieldBytes + 0 ≡ a .p + fieldBytes = omega arith in
     let agent = getD s (a .p + fieldBytes) 0 in
     let is : agent ≡ agentOf (restAt s (a .p)) = ap (λ (j : ℕ). getD s j 0) (sym i) ∙ sym (getD-drop (a .p + fieldBytes) s 0 0) in
     record {
       place = c .before .before .before .before .before .before .before .lay-event .ensures .0;
-      table = event-laid s (a .edition) (a .p) (a .n) (now (a .t)) _ agent (c .before .before .before .before .before .before .before .before .before .before .shape-here .result) (c .before .before .before .before .before .before .before .lay-event .ensures .1) is (c .before .before .before .before .before .before .before .before .before .before .shape-here .ensures);
-      tally = tally-any s (a .edition) (a .p) (a .k) (c .before .before .read-width .result) (c .noted .result) (rw (c .before .before .before .before .before .before .before .before .before .before .shape-here .ensures) at (c .before .before .read-width .ensures .0)) (rw is at (c .noted .ensures));
+      table = event-laid s (a .edition) (a .p) (a .n) (now (a .t)) _ agent (a .a) (c .before .before .before .before .before .before .before .lay-event .ensures .1) is (c .before .before .before .before .before .before .before .before .before .before .before .before .before .before .pre .4);
+      tally = tally-any s (a .edition) (a .p) (a .k) (c .before .before .read-width .result) (c .noted .result) (rw (c .before .before .before .before .before .before .before .before .before .before .before .before .before .before .pre .4) at (c .before .before .read-width .ensures .0)) (rw is at (c .noted .ensures));
       small = let w = c .before .before .read-width .ensures .1 in omega arith;
     }
 
@@ -60,7 +57,6 @@ take-event-spec =
     (tie.spec
     add-place
     shared-slice-read-agent
-    shape-here-requires
     lay-event-requires
     read-width-requires
     add-t20

@@ -4,15 +4,16 @@
 --     forced-led                at first each event waits for what has to come before it
 --     forced-set                an event that always waits for a set may be told to
 --     forced-first              W is placed before V, so R is
+--     forced-both               and V before R, so V waits for itself
 --     forced-other              V is placed before R, so before W
 --     press-first, press-other  these two as the code does them; bar-first: the first of one bar alone
---     forced-closed             what waits for one that waits
+--     forced-closed, forced-close     what waits for one that waits
 --     forced-cycle              what waits for itself is never placed
 --     Part, part-start, part-lowest, part-less, part-next     a loop over the members of a set, which takes the lowest that is left
 --     forced-found, forced-dead, forced-searched     the first way, and that there is none, where each event waits so
 use Prim.Native.Nat.{ℕ, _+_, _%_, _^_, _<_, _≤_}
 use mathlib.Core.Path.{_≡_, refl, sym, ap, subst, _∙_}
-use mathlib.Core.Bool.{Bool, true, false, _||_}
+use mathlib.Core.Bool.{Bool, true, false, _||_, cond}
 use mathlib.Core.Logic.{_⊎_, inl, inr, ⊎-elim}
 use mathlib.Core.List.{List, [], _∷_}
 use native.Mathlib.Nat.{mod-eq-of-lt}
@@ -27,7 +28,7 @@ use Rattle.basis.proofs.BoolLaws.{not-both-ways, false-of, bar-or, or-holds, or
 use Rattle.sets.specs.Mask.{slots, mem, Has, Within, insert, remove, Lowest}
 use Rattle.sets.proofs.MaskLaws.{mem-empty, ext-all, mem-lt, remove-lt, remove-old, mem-or, insert-old, insert-cases}
 use Rattle.gather.specs.Writers.{barAt}
-use Rattle.closing.specs.Closure.{Reach, step, more, Closed}
+use Rattle.closing.specs.Closure.{taken, Reach, step, more, Closed}
 use Rattle.orders.specs.Problem.{Problem}
 use Rattle.orders.specs.Order.{In}
 use Rattle.orders.specs.First.{FirstOf}
@@ -122,6 +123,13 @@ module _ (P : Problem) where
       λ q a b. r .0 .clear a w (subst (λ (x : ℕ). P .Bar a w x) (sym q) b) (⊎-elim (λ s. s) (λ m. t .0 w (subst (λ (x : ℕ). Has (getD f x 0) w) (sym q) m)) h),
       waits-first l (With S e) (⊎-elim (λ s. inl (inr s)) inr h) (r .1) (t .1),
     )
+
+    -- and where R waits for V, so does V
+    module _ (r : ℕ) (bar : P .Bar r w v) (back : Has (getD f r 0) v) where
+      waits-back : (l : List ℕ) (S : ℕ → Type 0) → Grown f S → Waits f S l → WaitsAt v (λ a. P .Bar a w v) S l → WaitsAt v (λ a. P .Bar a w v ⊎ (a ≡ v)) S l
+      waits-back [] S g t u = tt
+      waits-back (e ∷ l) S g t u =
+          (λ q a b. ⊎-elim (u .0 q a) (λ z. subst S (sym z) (g r v (u .0 q r bar) back)) b, waits-back l (With S e) (grown-with f S e g (t .0)) (t .1) (u .1))
 
   -- ---- V is placed before R, so before W
 
@@ -229,6 +237,13 @@ module _ (m k : ℕ) (before bars : List ℕ) where
           forced-set v y vs far old
           (λ l r. at-old v y (λ a. P .Bar a w v) cases l (Below k) (i .waits l r) (waits-first P f w v l (Below k) h r (i .waits l r)))
 
+      pub forced-both : (w < k) ⊎ Has (getD f v 0) w → (r : ℕ) → P .Bar r w v → Has (getD f r 0) v → (y : ℕ) → Within (getD f v 0) y
+          → ((a : ℕ) → Has y a → Has (getD f v 0) a ⊎ (P .Bar a w v ⊎ (a ≡ v))) → Forced P k before (set f v y)
+      forced-both h r bar back y old cases =
+          forced-set v y vs far old
+          (λ l u. at-old v y (λ a. P .Bar a w v ⊎ (a ≡ v)) cases l (Below k) (i .waits l u)
+          (waits-back P f w v r bar back l (Below k) start-grown (i .waits l u) (waits-first P f w v l (Below k) h u (i .waits l u))))
+
     module _ (r w v : ℕ) (ws : w < slots) (far : k ≤ w) (bar : P .Bar r w v) (waits : Has (getD f r 0) v) (apart : w ≡ v → ⊥) where
       pub forced-other : (y : ℕ) → Within (getD f w 0) y → ((a : ℕ) → Has y a → Has (getD f w 0) a ⊎ (a ≡ v)) → Forced P k before (set f w y)
       forced-other y old cases =
@@ -263,11 +278,18 @@ module _ (m k : ℕ) (before bars : List ℕ) where
 
       -- one bar alone
       pub bar-first : k ≤ v → (b : Bool) → b ≡ mem (getD f v 0) (w % slots) → (ltb w k || b) ≡ true → (r : ℕ) → r < slots → Has (barAt bars v w) r
-          → Forced P k before (set f v (insert (getD f v 0) (r % slots)))
-      bar-first far b is h r rs bar =
+          → (c : Bool) → c ≡ mem (getD f r 0) (v % slots) → Forced P k before (set f v (cond c (insert (insert (getD f v 0) (r % slots)) (v % slots)) (insert (getD f v 0) (r % slots))))
+      bar-first far b is h r rs bar false back =
           subst (λ (x : ℕ). Forced P k before (set f v (insert (getD f v 0) x))) (sym (mod-eq-of-lt rs))
           (forced-first w v vs far (comes b is h) (insert (getD f v 0) r) (λ a q. insert-old (getD f v 0) r a q)
           (λ a q. ⊎-elim (λ e. inr (event, writer, subst (Has (barAt bars v w)) (sym e) bar)) inl (insert-cases (getD f v 0) r a q)))
+      bar-first far b is h r rs bar true back =
+          let x = getD f v 0 in
+          subst (λ (z : ℕ). Forced P k before (set f v (insert (insert x (r % slots)) z))) (sym (mod-eq-of-lt vs))
+          (subst (λ (z : ℕ). Forced P k before (set f v (insert (insert x z) v))) (sym (mod-eq-of-lt rs))
+          (forced-both w v vs far (comes b is h) r (event, writer, bar) (ap (mem (getD f r 0)) (sym (mod-eq-of-lt vs)) ∙ sym back) (insert (insert x r) v)
+          (λ a q. insert-old (insert x r) v a (insert-old x r a q))
+          (λ a q. ⊎-elim (λ e. inr (inr e)) (λ g. ⊎-elim (λ e. inr (inl (event, writer, subst (Has (barAt bars v w)) (sym e) bar))) inl (insert-cases x r a g)) (insert-cases (insert x r) v a q))))
 
     pub forced-closed : {f′ : List ℕ} → k ≤ m → Closed m f f′ → Forced P k before f′
     forced-closed {f′} few c =
@@ -284,6 +306,12 @@ module _ (m k : ℕ) (before bars : List ℕ) where
 
         empty : (e : ℕ) → e < k → getD f′ e 0 ≡ 0
         empty e h = ext-all (getD f′ e 0) 0 (λ d. false-of _ (λ q. never e d h (c .reach e (omega arith) d .0 q)) ∙ sym (mem-empty d))
+
+    -- as the code closes it
+    pub forced-close : {f′ : List ℕ} → k ≤ m → m ≤ slots → Closed (taken m f) f f′ → Forced P k before f′
+    forced-close {f′} few room c =
+        let all : taken m f ≡ m = let z = i .size in omega (arith, z, room) in
+        forced-closed few (subst (λ (x : ℕ). Closed x f f′) all c)
 
     pub forced-cycle : (v : ℕ) → k ≤ v → v < m → Has (getD f v 0) v → Dead P (Below k)
     forced-cycle v far event h l r = ⊎-elim (λ s. absurd (omega (arith, s))) (waits-self P f v h l (Below k) r (i .waits l r)) (run-in P l (Below k) r v event)

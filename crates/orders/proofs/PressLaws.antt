@@ -5,7 +5,7 @@
 --     entry-in, entry-start     the members of an entry's set that are events and no inits
 --     presses-listed            an entry of a list
 use mathlib.Core.Path.{_≡_, refl, sym, ap, _∙_}
-use mathlib.Core.Bool.{Bool, true, false, _&&_, _||_}
+use mathlib.Core.Bool.{Bool, true, false, _&&_, _||_, cond}
 use mathlib.Core.List.{List}
 use Prim.Native.Nat.{ℕ, _%_, _<_, _≤_, min}
 use native.Mathlib.Nat.{mod-eq-of-lt}
@@ -28,11 +28,12 @@ module _ {k m : ℕ} {f : List ℕ} (size : length f ≡ slots) where
   presses-none = record { size = size; still = λ before bars a i. i }
 
   module _ (r w v : ℕ) (far : k ≤ v) (event : v < m) (writer : w < m) (few : m ≤ slots) (b : Bool) where
-    pub presses-first : r < slots → b ≡ mem (getD f v 0) (w % slots) → (ltb w k || b) ≡ true → Presses k m (AtOne r w v) f (set f v (insert (getD f v 0) (r % slots)))
-    presses-first rs is h =
+    pub presses-first : r < slots → b ≡ mem (getD f v 0) (w % slots) → (ltb w k || b) ≡ true → (c : Bool) → c ≡ mem (getD f r 0) (v % slots)
+        → Presses k m (AtOne r w v) f (set f v (cond c (insert (insert (getD f v 0) (r % slots)) (v % slots)) (insert (getD f v 0) (r % slots))))
+    presses-first rs is h c back =
         record {
           size = length-set f v _ ∙ size;
-          still = λ before bars a i. bar-first m k before bars i w v (omega arith) (omega arith) event writer far b is h r rs a;
+          still = λ before bars a i. bar-first m k before bars i w v (omega arith) (omega arith) event writer far b is h r rs a c back;
         }
 
     pub presses-other : (ltb w k || b) ≡ false → (w ≡ v → ⊥) → mem (getD f r 0) (v % slots) ≡ true

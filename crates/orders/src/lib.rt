@@ -365,13 +365,13 @@ fn cyclic(k: usize, m: usize, f: &[u32]) -> bool
     false
 }
 
-// How much there is in the first m masks.
+// A number that mostly grows where one of the first m masks does; where it does not, the bars are pressed once less.
 fn weight(m: usize, f: &[u32]) -> u32
     requires { ⌜ m ≤ length (now f) ⌝ }
 {
     let mut n: u32 = 0;
     for v in 0..m {
-        n = std::num::wrapping_add_u32(n, u32::count_ones(f[v]));
+        n = std::num::wrapping_add_u32(n, f[v]);
     }
     n
 }
@@ -433,20 +433,21 @@ fn force(
 // ---- the same by a list of bars
 
 // The bar (reader, writer, v). Where the writer is placed before v, the reader has to be; where v has to be placed before the reader, it has to be
-// before the writer.
+// before the writer. Where both are so v waits for itself, and is told so at once.
 fn press_bar(k: usize, m: usize, reader: usize, writer: usize, v: usize, f: &mut [u32])
     requires { ⌜ (k ≤ v) × (v < m) × (writer < m) × (m ≤ slots) × (reader < slots) × (length (now f) ≡ slots) ⌝ }
     ensures { λ _. ⌜ Presses k m (AtOne reader writer v) (now (f .entry)) (now (f .exit)) ⌝ }
 {
     let after = (writer < k) | sets::has(f[v], writer);
+    let ahead = sets::has(f[reader], v);
     if after {
-        f[v] = sets::with(f[v], reader);
+        f[v] = cells::take(sets::with(f[v], reader), v, ahead);
         return;
     }
     if writer == v {
         return;
     }
-    if sets::has(f[reader], v) {
+    if ahead {
         f[writer] = sets::with(f[writer], v);
     }
 }
@@ -467,7 +468,7 @@ fn press_entry(k: usize, m: usize, between: u32, reader: usize, writer: usize, f
     }
 }
 
-// All entries once, and then what waits for one that waits.
+// All entries once.
 fn press_list(
     k: usize,
     m: usize,
@@ -486,10 +487,9 @@ fn press_list(
         let writer = wide(writers[i]) % SLOTS;
         press_entry(k, m, between[i], reader, writer, f);
     }
-    closing::close(f, m);
 }
 
-// As `press_on`.
+// As `press_on`. Mostly an event waits for itself before anything is closed.
 fn press_list_on(
     k: usize,
     m: usize,
@@ -510,6 +510,10 @@ fn press_list_on(
         if cyclic(k, m, f) {
             return true;
         }
+        closing::close(f, m);
+        if cyclic(k, m, f) {
+            return true;
+        }
         let has = weight(m, f);
         if has == had {
             return false;
@@ -520,7 +524,7 @@ fn press_list_on(
     false
 }
 
-// As `force`.
+// As `force`, and for few events too.
 fn force_listed(
     k: usize,
     m: usize,
@@ -535,9 +539,6 @@ fn force_listed(
     ensures { λ r. ⌜ Pressed (tabled m (now (before .entry)) (listedBars (now (between .entry)) (now (readers .entry)) (now (writers .entry)) n)) k (now (before .entry)) r (now (f .exit)) ⌝ }
 {
     lead(k, m, before, f);
-    if m - k <= FEW {
-        return false;
-    }
     press_list_on(k, m, before, between, readers, writers, n, f)
 }
 

@@ -1,5 +1,4 @@
 -- `orders::force_listed` meets its contract: what events wait for at first is forced, and stays so. Assumes nothing.
-use mathlib.Core.Bool.{false≢true}
 use denote.Ref.{now}
 use Rattle.orders.specs.Listed.{listedBars}
 use Rattle.orders.proofs.ForcedLaws.{forced-led}
@@ -10,26 +9,14 @@ use Rattle.orders.proofs.force_listed.Tie as tie
 lead-requires : tie.Need-lead-requires
 lead-requires c κs = search needs
 
-sub-if1 : tie.Need-sub-if1
-sub-if1 c = search needs
+press-list-on-requires : tie.Need-press-list-on-requires
+press-list-on-requires c κs = (forced-led (c .before .before .before .before .before .before .args .m) (c .before .before .before .before .before .before .args .k) (now (c .before .before .before .before .before .before .args .before)) (listedBars (now (c .before .before .before .before .before .before .args .between)) (now (c .before .before .before .before .before .before .args .readers)) (now (c .before .before .before .before .before .before .args .writers)) (c .before .before .before .before .before .before .args .n)) (c .before .before .before .lead .ensures), c .before .before .before .before .before .before .pre .0, c .before .before .before .before .before .before .pre .1, c .before .before .before .before .before .before .pre .3)
 
 same-length : tie.Need-same-length
 same-length c = search needs
 
 returns : tie.Need-returns
-returns c =
-    record { none = λ z. absurd (false≢true z); still = forced-led (c .before .before .before .before .before .before .args .m) (c .before .before .before .before .before .before .args .k) (now (c .before .before .before .before .before .before .args .before)) (listedBars (now (c .before .before .before .before .before .before .args .between)) (now (c .before .before .before .before .before .before .args .readers)) (now (c .before .before .before .before .before .before .args .writers)) (c .before .before .before .before .before .before .args .n)) (c .before .before .before .lead .ensures) }
-
-press-list-on-requires : tie.Need-press-list-on-requires
-press-list-on-requires c κs = (forced-led (c .before .before .before .before .before .before .before .args .m) (c .before .before .before .before .before .before .before .args .k) (now (c .before .before .before .before .before .before .before .args .before)) (listedBars (now (c .before .before .before .before .before .before .before .args .between)) (now (c .before .before .before .before .before .before .before .args .readers)) (now (c .before .before .before .before .before .before .before .args .writers)) (c .before .before .before .before .before .before .before .args .n)) (c .before .before .before .before .lead .ensures), c .before .before .before .before .before .before .before .pre .0, c .before .before .before .before .before .before .before .pre .1, c .before .before .before .before .before .before .before .pre .3)
-
-same-length-2 : tie.Need-same-length-2
-same-length-2 c = search needs
-
-returns-2 : tie.Need-returns-2
-returns-2 c = search needs
+returns c = search needs
 
 pub force-listed-spec : {M : Type 1} → statement M
-force-listed-spec =
-    tie.close
-    (tie.spec lead-requires sub-if1 same-length returns press-list-on-requires same-length-2 returns-2)
+force-listed-spec = tie.close (tie.spec lead-requires press-list-on-requires same-length returns)

@@ -1,15 +1,13 @@
 -- `orders::press_all` meets its contract: bar by bar, and closed. The measure is what is left. Assumes nothing.
-use mathlib.Core.Path.{_≡_, sym, ap, subst, _∙_}
+use mathlib.Core.Path.{_≡_, sym, _∙_}
 use mathlib.Core.List.{List}
-use Prim.Native.Nat.{ℕ, _-_, _≤_}
+use Prim.Native.Nat.{_-_, _≤_}
 use native.Mathlib.Omega.{arith}
 use borrow.Author.Needs.{needs}
 use denote.Ref.{now}
-use lib.ListN.{length}
-use Rattle.closing.specs.Closure.{taken, Closed}
 use Rattle.orders.specs.Tables.{tabled}
 use Rattle.orders.specs.Forced.{Forced}
-use Rattle.orders.proofs.ForcedLaws.{forced-closed}
+use Rattle.orders.proofs.ForcedLaws.{forced-close}
 use Rattle.orders.proofs.press_all.Statement.{statement}
 use Rattle.orders.proofs.press_all.Tie as tie
 
@@ -48,9 +46,8 @@ same-length c = c .before .before .close .ensures .size ∙ c .before .before .b
 
 returns : tie.Need-returns Inv-loop μ-loop
 returns c =
-    let i = c .before .before .before .before .before .loop .inv .1 in
-    let all : taken (c .before .before .before .before .before .before .before .args .m) (c .before .before .before .before .before .loop .f) ≡ c .before .before .before .before .before .before .before .args .m = let z = i .size in omega (arith, z, c .before .before .before .before .before .before .before .pre .2) in
-    forced-closed (c .before .before .before .before .before .before .before .args .m) (c .before .before .before .before .before .before .before .args .k) (now (c .before .before .before .before .before .before .before .args .before)) (now (c .before .before .before .before .before .before .before .args .bars)) i (c .before .before .before .before .before .before .before .pre .1) (subst (λ (x : ℕ). Closed x (c .before .before .before .before .before .loop .f) (c .before .before .close .last .0)) all (c .before .before .close .ensures))
+    let a = c .before .before .before .before .before .before .before .args in
+    forced-close (a .m) (a .k) (now (a .before)) (now (a .bars)) (c .before .before .before .before .before .loop .inv .1) (c .before .before .before .before .before .before .before .pre .1) (c .before .before .before .before .before .before .before .pre .2) (c .before .before .close .ensures)
 
 pub press-all-spec : {M : Type 1} → statement M
 press-all-spec =

@@ -1,17 +1,15 @@
--- `orders::press_list` meets its contract: entry by entry, and closed. The measure is what is left. Assumes nothing.
-use mathlib.Core.Path.{_≡_, sym, ap, subst, _∙_}
+-- `orders::press_list` meets its contract: entry by entry. The measure is what is left. Assumes nothing.
+use mathlib.Core.Path.{_≡_, sym, subst, _∙_}
 use mathlib.Core.List.{List}
 use Prim.Native.Nat.{ℕ, _-_, _%_, _≤_}
 use native.Mathlib.Omega.{arith}
 use denote.Ref.{now}
 use lib.ListN.{length, getD}
 use Rattle.sets.specs.Mask.{slots}
-use Rattle.closing.specs.Closure.{taken, Closed}
 use Rattle.orders.specs.Tables.{tabled}
 use Rattle.orders.specs.Listed.{listedBars}
 use Rattle.orders.specs.Forced.{Forced}
 use Rattle.orders.specs.steps.Press.{AtEach, Presses}
-use Rattle.orders.proofs.ForcedLaws.{forced-closed}
 use Rattle.orders.proofs.PressLaws.{presses-listed}
 use borrow.Author.Needs.{needs}
 use Rattle.orders.proofs.press_list.Statement.{statement}
@@ -62,19 +60,11 @@ loop-again c =
     (subst (λ (w : ℕ). Presses (a .k) (a .m) (AtEach (a .m) (getD (now (a .readers)) (l .i) 0 % slots) (w % slots) (getD (now (a .between)) (l .i) 0)) (l .f) (c .before .before .press-entry .last .1 .1 .1 .1 .1 .0)) (c .before .before .before .before .before .wide2 .ensures) p)
     (l .inv)
 
-close-requires : tie.Need-close-requires Inv-loop μ-loop
-close-requires c κs = search needs
-
 same-length : tie.Need-same-length Inv-loop μ-loop
-same-length c = c .before .before .close .ensures .size ∙ c .before .before .before .before .before .loop .inv .size ∙ sym (c .before .before .before .before .before .before .before .pre .0 .size)
+same-length c = c .before .loop .inv .size ∙ sym (c .before .before .before .pre .0 .size)
 
 returns : tie.Need-returns Inv-loop μ-loop
-returns c =
-    let a = c .before .before .before .before .before .before .before .args in
-    let l = c .before .before .before .before .before .loop in
-    let all : taken (a .m) (l .f) ≡ a .m = let z = l .inv .size in omega (arith, z, c .before .before .before .before .before .before .before .pre .2) in
-    forced-closed (a .m) (a .k) (now (a .before)) (listedBars (now (a .between)) (now (a .readers)) (now (a .writers)) (a .n)) (l .inv) (c .before .before .before .before .before .before .before .pre .1)
-    (subst (λ (x : ℕ). Closed x (l .f) (c .before .before .close .last .0)) all (c .before .before .close .ensures))
+returns c = c .before .loop .inv
 
 pub press-list-spec : {M : Type 1} → statement M
 press-list-spec =
@@ -93,6 +83,5 @@ press-list-spec =
     add-i
     loop-less
     loop-again
-    close-requires
     same-length
     returns)

@@ -4,12 +4,12 @@ use mathlib.Core.Bool.{false≢true}
 use mathlib.Core.List.{List}
 use Prim.Native.Nat.{_-_, _≤_}
 use native.Mathlib.Omega.{arith}
-use borrow.Author.Needs.{needs}
 use denote.Ref.{now}
 use Rattle.orders.specs.Tables.{tabled}
 use Rattle.orders.specs.Listed.{listedBars}
 use Rattle.orders.specs.Forced.{Forced}
-use Rattle.orders.proofs.ForcedLaws.{forced-cycle}
+use Rattle.orders.proofs.ForcedLaws.{forced-close, forced-cycle}
+use borrow.Author.Needs.{needs}
 use Rattle.orders.proofs.press_list_on.Statement.{statement}
 use Rattle.orders.proofs.press_list_on.Tie as tie
 
@@ -36,20 +36,36 @@ same-length c = c .before .before .before .before .before .press-list .ensures .
 
 returns : tie.Need-returns Inv-loop μ-loop
 returns c =
+    let a = c .before .before .before .before .before .before .before .before .before .before .before .before .args in
     let s = c .before .cyclic .ensures .some (c .if1 .taken) in
-    record {
-      none = λ z. forced-cycle (c .before .before .before .before .before .before .before .before .before .before .before .before .args .m) (c .before .before .before .before .before .before .before .before .before .before .before .before .args .k) (now (c .before .before .before .before .before .before .before .before .before .before .before .before .args .before)) (listedBars (now (c .before .before .before .before .before .before .before .before .before .before .before .before .args .between)) (now (c .before .before .before .before .before .before .before .before .before .before .before .before .args .readers)) (now (c .before .before .before .before .before .before .before .before .before .before .before .before .args .writers)) (c .before .before .before .before .before .before .before .before .before .before .before .before .args .n)) (c .before .before .before .before .before .press-list .ensures) (s .0) (s .1) (s .2) (s .3);
-      still = c .before .before .before .before .before .press-list .ensures;
-    }
+    record { none = λ z. forced-cycle (a .m) (a .k) (now (a .before)) (listedBars (now (a .between)) (now (a .readers)) (now (a .writers)) (a .n)) (c .before .before .before .before .before .press-list .ensures) (s .0) (s .1) (s .2) (s .3); still = c .before .before .before .before .before .press-list .ensures }
 
-weight-requires-2 : tie.Need-weight-requires-2 Inv-loop μ-loop
-weight-requires-2 c κs = let z = c .before .before .before .before .before .before .press-list .ensures .size in omega (arith, z, c .before .before .before .before .before .before .before .before .before .before .before .before .before .pre .2)
+close-requires : tie.Need-close-requires Inv-loop μ-loop
+close-requires c κs = search needs
+
+cyclic-requires-2 : tie.Need-cyclic-requires-2 Inv-loop μ-loop
+cyclic-requires-2 c κs = let z = c .before .before .before .before .before .before .before .before .before .before .press-list .ensures .size in let y = c .before .before .before .close .ensures .size in (c .before .before .before .before .before .before .before .before .before .before .before .before .before .before .before .before .before .pre .2, omega (arith, z, y))
 
 same-length-2 : tie.Need-same-length-2 Inv-loop μ-loop
-same-length-2 c = c .before .before .before .before .before .before .before .before .press-list .ensures .size ∙ sym (c .before .before .before .before .before .before .before .before .before .before .before .before .before .before .before .pre .0 .size)
+same-length-2 c = c .before .before .before .before .before .close .ensures .size ∙ c .before .before .before .before .before .before .before .before .before .before .before .before .press-list .ensures .size ∙ sym (c .before .before .before .before .before .before .before .before .before .before .before .before .before .before .before .before .before .before .before .pre .0 .size)
 
 returns-2 : tie.Need-returns-2 Inv-loop μ-loop
-returns-2 c = record { none = λ z. absurd (false≢true z); still = c .before .before .before .before .before .before .before .before .press-list .ensures }
+returns-2 c =
+    let a = c .before .before .before .before .before .before .before .before .before .before .before .before .before .before .before .before .before .before .before .args in
+    let s = c .before .cyclic2 .ensures .some (c .if2 .taken) in
+    let i = forced-close (a .m) (a .k) (now (a .before)) (listedBars (now (a .between)) (now (a .readers)) (now (a .writers)) (a .n)) (c .before .before .before .before .before .before .before .before .before .before .before .before .press-list .ensures) (c .before .before .before .before .before .before .before .before .before .before .before .before .before .before .before .before .before .before .before .pre .1) (c .before .before .before .before .before .before .before .before .before .before .before .before .before .before .before .before .before .before .before .pre .2) (c .before .before .before .before .before .close .ensures) in
+    record { none = λ z. forced-cycle (a .m) (a .k) (now (a .before)) (listedBars (now (a .between)) (now (a .readers)) (now (a .writers)) (a .n)) i (s .0) (s .1) (s .2) (s .3); still = i }
+
+weight-requires-2 : tie.Need-weight-requires-2 Inv-loop μ-loop
+weight-requires-2 c κs = let z = c .before .before .before .before .before .before .before .before .before .before .before .before .before .press-list .ensures .size in let y = c .before .before .before .before .before .before .close .ensures .size in omega (arith, z, y, c .before .before .before .before .before .before .before .before .before .before .before .before .before .before .before .before .before .before .before .before .pre .2)
+
+same-length-3 : tie.Need-same-length-3 Inv-loop μ-loop
+same-length-3 c = c .before .before .before .before .before .before .before .before .close .ensures .size ∙ c .before .before .before .before .before .before .before .before .before .before .before .before .before .before .before .press-list .ensures .size ∙ sym (c .before .before .before .before .before .before .before .before .before .before .before .before .before .before .before .before .before .before .before .before .before .before .pre .0 .size)
+
+returns-3 : tie.Need-returns-3 Inv-loop μ-loop
+returns-3 c =
+    let a = c .before .before .before .before .before .before .before .before .before .before .before .before .before .before .before .before .before .before .before .before .before .before .args in
+    record { none = λ z. absurd (false≢true z); still = forced-close (a .m) (a .k) (now (a .before)) (listedBars (now (a .between)) (now (a .readers)) (now (a .writers)) (a .n)) (c .before .before .before .before .before .before .before .before .before .before .before .before .before .before .before .press-list .ensures) (c .before .before .before .before .before .before .before .before .before .before .before .before .before .before .before .before .before .before .before .before .before .before .pre .1) (c .before .before .before .before .before .before .before .before .before .before .before .before .before .before .before .before .before .before .before .before .before .before .pre .2) (c .before .before .before .before .before .before .before .before .close .ensures) }
 
 add-round : tie.Need-add-round Inv-loop μ-loop
 add-round c = search needs
@@ -58,13 +74,15 @@ loop-less : tie.Need-loop-less Inv-loop μ-loop
 loop-less c = search needs
 
 loop-again : tie.Need-loop-again Inv-loop μ-loop
-loop-again c = c .before .before .before .before .before .before .before .before .press-list .ensures
+loop-again c =
+    let a = c .before .before .before .before .before .before .before .before .before .before .before .before .before .before .before .before .before .before .before .before .before .before .args in
+    forced-close (a .m) (a .k) (now (a .before)) (listedBars (now (a .between)) (now (a .readers)) (now (a .writers)) (a .n)) (c .before .before .before .before .before .before .before .before .before .before .before .before .before .before .before .press-list .ensures) (c .before .before .before .before .before .before .before .before .before .before .before .before .before .before .before .before .before .before .before .before .before .before .pre .1) (c .before .before .before .before .before .before .before .before .before .before .before .before .before .before .before .before .before .before .before .before .before .before .pre .2) (c .before .before .before .before .before .before .before .before .close .ensures)
 
-same-length-3 : tie.Need-same-length-3 Inv-loop μ-loop
-same-length-3 c = c .before .loop .inv .size ∙ sym (c .before .before .before .before .before .pre .0 .size)
+same-length-4 : tie.Need-same-length-4 Inv-loop μ-loop
+same-length-4 c = c .before .loop .inv .size ∙ sym (c .before .before .before .before .before .pre .0 .size)
 
-returns-3 : tie.Need-returns-3 Inv-loop μ-loop
-returns-3 c = record { none = λ z. absurd (false≢true z); still = c .before .loop .inv }
+returns-4 : tie.Need-returns-4 Inv-loop μ-loop
+returns-4 c = record { none = λ z. absurd (false≢true z); still = c .before .loop .inv }
 
 pub press-list-on-spec : {M : Type 1} → statement M
 press-list-on-spec =
@@ -78,11 +96,15 @@ press-list-on-spec =
     cyclic-requires
     same-length
     returns
-    weight-requires-2
+    close-requires
+    cyclic-requires-2
     same-length-2
     returns-2
+    weight-requires-2
+    same-length-3
+    returns-3
     add-round
     loop-less
     loop-again
-    same-length-3
-    returns-3)
+    same-length-4
+    returns-4)

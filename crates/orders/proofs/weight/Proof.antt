@@ -1,4 +1,4 @@
--- `orders::weight` adds nothing that is promised; it ends. Assumes nothing.
+-- `orders::weight` promises nothing; it ends. Assumes nothing.
 use Prim.Native.Nat.{_-_, _≤_}
 use native.Mathlib.Omega.{arith}
 use borrow.Author.Needs.{needs}

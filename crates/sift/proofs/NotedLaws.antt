@@ -1,7 +1,7 @@
 -- The laws of specs/steps/Noted.antt. Assumes nothing.
 --     noted-none, noted-more      event by event
 --     wide-is                     the test of what is wide, as the code has it
-use mathlib.Core.Path.{_≡_, sym, ap, _∙_, subst}
+use mathlib.Core.Path.{_≡_, refl, sym, ap, _∙_, subst}
 use mathlib.Core.Bool.{Bool, cond, _&&_, _||_}
 use mathlib.Core.List.{List}
 use Prim.Native.Nat.{ℕ, _+_, _*_, _<_}
@@ -10,7 +10,7 @@ use native.Mathlib.Decide.{ℕ-discrete}
 use lib.Bits.{bitOr}
 use lib.Dec.{ltb}
 use lib.ListN.{set}
-use Rattle.basis.specs.Test.{_and_}
+use Rattle.basis.specs.Test.{_and_, _or_}
 use Rattle.basis.proofs.BoolLaws.{amp-and, bar-or}
 use Rattle.format.specs.declared.Shape.{Shape}
 use Rattle.format.specs.Shape.{sc, writes}
@@ -19,6 +19,7 @@ use Rattle.cells.specs.Walk.{picked}
 use Rattle.cells.proofs.WalkLaws.{picked-none, picked-more}
 use Rattle.cells.proofs.CellsLaws.{placing-none, placing-more}
 use Rattle.tables.specs.Tables.{shapeIn}
+use Rattle.own.specs.Lone.{Lone}
 use Rattle.own.proofs.LoneLaws.{Gathered, gathered-none, gathered-more}
 use Rattle.alike.specs.Ranges.{scWrites}
 use Rattle.alike.specs.steps.Keys.{keyOf, Keyed}

@@ -3,6 +3,7 @@
 --     covering-none, covering-more     event by event
 --     far-is                           the test of what is far, as the code has it
 --     may-near, may-beyond             who may write a byte of the first, and another
+--     covers-parts, by-first           the bytes that an access covers; an event without a second access writes by its first
 --     may-write                        an event that writes a byte is among those that may
 use mathlib.Core.Path.{_≡_, refl, sym, ap, _∙_, subst}
 use mathlib.Core.Bool.{Bool, true, false, not, cond, _||_}

@@ -11,9 +11,9 @@ use native.Mathlib.Omega.{arith}
 use borrow.Author.Tests.{ne-eqb, eqb-true, lt-ltb, ltb-true, ltb-false, leb-true}
 use lib.Bits.{bitAnd, bitOr, or-zero-l, and-zero-l}
 use lib.Dec.{eqb, ltb, leb}
-use lib.ListN.{length, getD, replicate, length-replicate, getD-replicate}
-use Rattle.basis.specs.Test.{_and_, _or_, non}
-use Rattle.basis.proofs.BoolLaws.{by-bool, bool-ext, not-both-ways, false-of, amp-and, and-holds, and-fails, and-true, and-false, and-both, both-hold, or-none}
+use lib.ListN.{getD, replicate, length-replicate, getD-replicate}
+use Rattle.basis.specs.Test.{_and_, _or_}
+use Rattle.basis.proofs.BoolLaws.{by-bool, bool-ext, not-both-ways, false-of, amp-and, and-holds, and-fails, and-true, and-both, both-hold, or-none}
 use Rattle.format.specs.declared.Shape.{Shape}
 use Rattle.format.specs.declared.Row.{Row}
 use Rattle.format.specs.Shape.{sc, writes, equal, bothSc, covers}

@@ -1,7 +1,7 @@
 -- The laws of specs/Clean.antt, and what follows for the rules 22 to 25. Assumes nothing.
 --     marks-or, marks-number, marks-bare, marks-below, marks-cyclic     what is noticed, joined; each part of it
 --     last-more, run-more, amiss-at     row by row
---     marks-clean                  a flag that nothing was noticed
+--     never-more                   none among the first numbers, one by one
 --     row-covered                  a row that is not amiss
 --     Unmixed, unmixed             the sources that 25 asks for, where no row is amiss
 --     clean-tells                  the flag of the whole
@@ -18,18 +18,17 @@ use native.Mathlib.Decide.{ℕ-discrete, decLt}
 use borrow.Author.Tests.{eq-eqb, ne-eqb, eqb-true, eqb-false, ltb-true, ltb-false, lt-ltb, le-ltb, le-leb}
 use lib.Bits.{bitAnd, bitOr, or-zero-l}
 use lib.Dec.{eqb, ltb, leb}
-use lib.ListN.{length, getD, set, replicate, length-replicate, getD-replicate}
+use lib.ListN.{length, getD, replicate, length-replicate, getD-replicate}
 use lib.Seq.{getD-set-same, getD-set-other}
 use Rattle.basis.specs.Test.{_and_, _or_}
 use Rattle.basis.proofs.BoolLaws.{by-bool, not-both-ways, false-of, amp-and, bar-or, and-both, and-parts, both-hold, or-holds, or-second}
 use Rattle.format.specs.declared.Row.{Row}
-use Rattle.format.specs.declared.Shape.{Shape}
 use Rattle.format.specs.Shape.{writes, tearFree, equal}
 use Rattle.answer.specs.declared.Rule.the-variants.{Kept}
 use Rattle.answer.proofs.RulesLaws.{also-later}
 use Rattle.sets.specs.Mask.{slots, mem, Has, insert}
 use Rattle.sets.specs.Tells.{Tells}
-use Rattle.sets.proofs.MaskLaws.{mem-and, mem-or, mem-empty, mem-insert, insert-new, insert-cases, ext-all}
+use Rattle.sets.proofs.MaskLaws.{mem-and, mem-or, mem-empty, insert-new, insert-cases, ext-all}
 use Rattle.cells.specs.Cells.{gaining}
 use Rattle.cells.specs.First.{firstOf}
 use Rattle.cells.proofs.FirstLaws.{first-past}
@@ -38,7 +37,7 @@ use Rattle.tables.proofs.TablesLaws.{reader-slot}
 use Rattle.own.specs.Lone.{Lone}
 use Rattle.torn.specs.Torn.{untornIn, sourceGains, sourcesIn, rule25In}
 use Rattle.torn.specs.steps.Noticed.{Marks, Among}
-use Rattle.torn.specs.steps.Doubled.{Twice, Doubled}
+use Rattle.torn.specs.steps.Doubled.{Twice}
 use Rattle.torn.proofs.NoticedLaws.{or-nothing}
 use Rattle.torn.proofs.TornLaws.{row-gains, row-keeps, sources-none, sources-length, sources-more}
 use Rattle.torn.proofs.DoubledLaws.{not-doubled}
@@ -128,8 +127,13 @@ module _ (t succ pred : List ℕ) (far : ℕ) (l q : List ℕ) (j : ℕ) (r : Ro
       subst (λ (x : Row). Marks y (RowAmiss t succ pred far l x (lastIn q j) (runIn t q (suc j)))) is
       (subst (λ (x : ℕ). Marks y (RowAmiss t succ pred far l r x (runIn t q (suc j)))) a (subst (λ (x : ℕ). Marks y (RowAmiss t succ pred far l r last x)) b g))
 
-pub marks-clean : {A : Type 0} (c : ℕ) → Marks c A → Tells (eqb c 0) (A → ⊥)
-marks-clean c m = record { holds = λ h. m .none (eqb-true c 0 h); fails = λ h f. f (m .some (eqb-false c 0 h)) }
+-- none among the first numbers, and not the next one
+pub never-more : (P : ℕ → Type 0) (k : ℕ) → (Among k P → ⊥) → (P k → ⊥) → Among (k + 1) P → ⊥
+never-more P k old new a = go (ℕ-discrete (a .at) k)
+  where
+    go : Dec (a .at ≡ k) → ⊥
+    go (yes e) = new (subst P e (a .holds))
+    go (no e) = old (record { at = a .at; inside = let z = a .inside in omega (arith, e); holds = a .holds })
 
 -- a row that is not amiss
 pub row-covered : (t succ pred : List ℕ) (far : ℕ) (l : List ℕ) (r : Row) (last m : ℕ) → (RowAmiss t succ pred far l r last m → ⊥) → coveredIn t r ≡ true

@@ -1,5 +1,6 @@
 // One pass over the rows where no rule of 22 to 25 is broken, which is mostly so: it notices whether something may be amiss, and lists the bars by
-// the way. By first accesses alone: where an event has a second one, the answer is that something may be. Without a jump in the loops.
+// the way. By first accesses alone: where an event has a second one, the answer is that something may be. No jump in the loops by what they find, but
+// for one out of the pass.
 use bars::LIST;
 use format::Row;
 use format::Shape;
@@ -263,7 +264,7 @@ fn enter(
 
 // ---- the pass
 
-// The first rows: is none amiss, and what they bar.
+// The first rows: is none amiss, and what they bar. It ends at the first that is.
 fn pass(
     k: usize,
     t: &[u8; COLUMNS],
@@ -282,7 +283,6 @@ fn pass(
     ensures { λ s. ⌜ Passed (now (t .entry)) (now (eq .entry)) far (now (bytes .entry)) (now (succ .entry)) (now (pred .entry)) (now (q .entry)) k (min rows rowRoom) s (now (between .exit)) (now (readers .exit)) (now (writers .exit)) ⌝ }
 {
     let m = least(rows, ROWS);
-    let mut c = 0;
     let mut n: usize = 0;
     let mut last_reader: u8 = 0;
     let mut last_writer: u8 = 0;
@@ -291,7 +291,13 @@ fn pass(
     for j in 0..m {
         let r = rows::row(q, j);
         wholes = run(t, r, last_reader, wholes);
-        c = c | amiss(t, r, last_reader, wholes, succ, pred, far, bytes);
+        let found = amiss(t, r, last_reader, wholes, succ, pred, far, bytes);
+        if found != 0 {
+            return Sifted {
+                clean: false,
+                count: n,
+            };
+        }
         let b = barred(k, t, eq, succ, pred, r);
         let again = (r.reader == last_reader) & ((r.writer == last_writer) & (b == last));
         n = enter(n, b, r, again, between, readers, writers);
@@ -300,7 +306,7 @@ fn pass(
         last = b;
     }
     Sifted {
-        clean: c == 0,
+        clean: true,
         count: n,
     }
 }

@@ -1,4 +1,4 @@
--- A number for the range of each sc access, so that two ranges are compared at once: what the private steps of crate alike promise. Laws: proofs/KeysLaws.antt.
+-- A number for the range of each sc access, so that two ranges are compared at once: what `key` and the private steps of crate alike promise. Laws: proofs/KeysLaws.antt.
 --     keyOf a            equal ranges of sc accesses have equal numbers, others have not; 0 for an access that is not sc
 --     Keyed a r          r is it, and the width is a byte's
 --     Narrow t m         the widths in the first m slots are a byte's

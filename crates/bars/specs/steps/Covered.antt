@@ -1,4 +1,4 @@
--- Rows by first accesses. No public contract cites this file. Laws: proofs/CoveredLaws.antt. Assumes nothing.
+-- Rows by first accesses. Beside private steps, `covered` cites this file. Laws: proofs/CoveredLaws.antt. Assumes nothing.
 --     coveredIn t r     the first accesses of both events of the row r cover its byte
 use mathlib.Core.Bool.{Bool}
 use mathlib.Core.List.{List}

@@ -1,4 +1,4 @@
--- Who writes a byte, noticed without a jump. No public contract cites this file. Laws: proofs/CoverLaws.antt. Assumes nothing.
+-- Who writes a byte, noticed without a jump. No public contract of the crate cites this file; crate sift does. Laws: proofs/CoverLaws.antt. Assumes nothing.
 --     nearRoom                    the flat bytes of which it is known who writes them
 --     Covered k n x l l′          l′ is l, of which the masks at the n places from k on have gained x
 --     farOf a b                   of an event with the accesses a and b more is to be known than the eight bytes from a's start on

@@ -12,7 +12,7 @@ use Rattle.tables.specs.Tables.{accesses, shapeIn, slotIn}
 use Rattle.bars.specs.Bars.{maskIn}
 use Rattle.bars.specs.Listed.{goneIn}
 use Rattle.bars.proofs.CoveredLaws.{covered-reader, covered-writer}
-use Rattle.sift.specs.steps.Alikes.{Bare, Agrees}
+use Rattle.sift.specs.steps.Alikes.{Bare}
 use Rattle.sift.proofs.AlikesLaws.{agree-reader, agree-writer}
 use borrow.Author.Needs.{needs}
 use Rattle.sift.proofs.barred.Statement.{statement}

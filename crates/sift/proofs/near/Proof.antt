@@ -1,13 +1,13 @@
 -- `sift::near` meets its contract: the masks have gained the events that are gone from `left`. The measure is `left`. Assumes nothing.
 use borrow.Author.Needs.{needs}
-use mathlib.Core.Path.{_≡_, sym, ap, _∙_, subst}
-use Prim.Native.Nat.{ℕ, _*_, _%_, _<_}
+use mathlib.Core.Path.{_≡_, ap, _∙_, subst}
+use Prim.Native.Nat.{ℕ, _*_, _<_}
 use native.Mathlib.Nat.{mod-eq-of-lt}
 use native.Mathlib.Omega.{arith}
 use denote.Ref.{now}
 use Rattle.sets.specs.Mask.{slots, Has, insert, remove}
 use Rattle.sets.proofs.MaskLaws.{mem-lt, remove-lt}
-use Rattle.tables.specs.Tables.{accesses, shapeIn}
+use Rattle.tables.specs.Tables.{shapeIn}
 use Rattle.sift.specs.steps.Near.{Near}
 use Rattle.sift.proofs.NearLaws.{near-none, near-next}
 use Rattle.sift.proofs.near.Statement.{statement}

@@ -1,7 +1,7 @@
 -- `sift::note` meets its contract: the first e events are done. The measure is what is left. Assumes nothing.
 use borrow.Author.Needs.{needs}
 use mathlib.Core.Path.{_≡_, ap, _∙_, subst}
-use mathlib.Core.Bool.{Bool, cond, _&&_, _||_}
+use mathlib.Core.Bool.{cond, _&&_, _||_}
 use Prim.Native.Nat.{ℕ, _+_, _-_, _*_, _%_, _≤_, min}
 use native.Mathlib.Nat.{mod-eq-of-lt}
 use native.Mathlib.Omega.{arith}
@@ -10,7 +10,7 @@ use lib.Dec.{ltb}
 use lib.ListN.{length}
 use Rattle.sets.specs.Mask.{slots, insert}
 use Rattle.cells.proofs.CellsLaws.{placing-length}
-use Rattle.tables.specs.Tables.{accesses, shapeIn}
+use Rattle.tables.specs.Tables.{shapeIn}
 use Rattle.sift.specs.steps.Noted.{NotedIn}
 use Rattle.sift.proofs.NotedLaws.{noted-none, noted-more}
 use Rattle.sift.proofs.note.Statement.{statement}

@@ -1,7 +1,7 @@
 -- `sift::reasons` meets its contract. Assumes nothing.
-use mathlib.Core.Path.{ap, _∙_}
-use mathlib.Core.Bool.{Bool, cond, _&&_}
-use lib.Bits.{bitAnd, bitOr}
+use mathlib.Core.Path.{_∙_}
+use mathlib.Core.Bool.{cond, _&&_}
+use lib.Bits.{bitOr}
 use Rattle.sift.proofs.AlikesLaws.{reasons-bare}
 use borrow.Author.Needs.{needs}
 use Rattle.sift.proofs.reasons.Statement.{statement}

@@ -1,6 +1,4 @@
 -- `sift::sift` meets its contract: clean tables are told by their parts, and the laws of Clean do the rest. Assumes nothing.
-use mathlib.Core.Path.{_≡_}
-use mathlib.Core.Bool.{true}
 use Prim.Native.Nat.{_≤_, min}
 use native.Mathlib.Omega.{arith}
 use borrow.Author.Tests.{eqb-true, eqb-false}

@@ -1,4 +1,4 @@
--- Masks with two members. No public contract cites this file. Laws: proofs/DoubledLaws.antt. Assumes nothing.
+-- Masks with two members. Beside private steps, `others` cites this file. Laws: proofs/DoubledLaws.antt. Assumes nothing.
 --     Twice m        m has two members
 --     Doubled s      some mask of s has
 use mathlib.Core.List.{List}

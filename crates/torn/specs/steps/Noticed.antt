@@ -1,5 +1,5 @@
 -- A loop that looks at all and only notices, without a jump: what it finds is joined, and one test at the end tells whether there was any.
--- No public contract cites this file. Laws: proofs/NoticedLaws.antt. Assumes nothing.
+-- Beside private steps, `others` cites this file. Laws: proofs/NoticedLaws.antt. Assumes nothing.
 --     Marks r A       the number r is not 0 where A holds, and 0 where it does not
 --     Among n P       P holds of a number below n
 use mathlib.Core.Path.{_≡_}

@@ -24,7 +24,7 @@ use Rattle.content.specs.Content.{standsFirst}
 use Rattle.entries.specs.declared.Counts.{Counts}
 use Rattle.entries.specs.Entries.{eventAt, eventsOn, eventsIn}
 use Rattle.entries.proofs.EntriesLaws.{events-count}
-use Rattle.faults.specs.Faults.{initTest, InitTold}
+use Rattle.faults.specs.Faults.{InitTold}
 use Rattle.sheet.specs.steps.Between.{Between, Clear, Lined, FirstTold, behind}
 use Rattle.sheet.proofs.BetweenLaws.{counted-of, events-none, events-more}
 

@@ -301,7 +301,7 @@ fn shape_here(s: &[u8], edition: u8, p: u16) -> Shape
     layout::shape_of(edition, &s[start..end])
 }
 
-// 01's rule for tear-free, of an event that fits: none of width 8 is but an sc one, whose mode has no bit of it.
+// 01's rule for tear-free, of an event that fits. 8 times its mode has the bit of a width of 8 in mode 1 alone: an unordered access of that width may tear.
 fn tear_plain(a: Shape) -> u8
     requires { ⌜ Fitting a ⌝ }
     ensures { λ r. ⌜ r ≡ tearOf (a .kind) (a .mode) (a .start) (a .width) ⌝ }

@@ -1,14 +1,14 @@
 -- The laws of specs/Lone.antt. Assumes nothing.
---     Gathered, gathered-none, gathered-more     a loop that gathers the widths of second accesses
+--     Gathered, gathered-none, gathered-more, gathered-all     a loop that gathers the widths of second accesses
 --     lone-at                     the access at a byte is the first, or none
 --     lone-meets, lone-picked     two events meet by their first accesses; those that an event meets
 use mathlib.Core.Path.{_≡_, refl, sym, ap, _∙_}
 use mathlib.Core.Bool.{Bool, true, false, cond, not}
 use mathlib.Core.List.{List}
-use Prim.Native.Nat.{ℕ, _+_, _*_, _<_, _≤_}
+use Prim.Native.Nat.{ℕ, _+_, _*_, _/_, _%_, _<_, _≤_}
 use native.Mathlib.Omega.{arith}
 use native.Mathlib.Decide.{ℕ-discrete}
-use borrow.Author.Tests.{ltb-true, leb-true}
+use borrow.Author.Tests.{ltb-true, leb-true, eqb-true, eq-eqb}
 use lib.Bits.{bitOr, or-add-and, and-le-l, and-le-r}
 use lib.Dec.{eqb, ltb, leb}
 use Rattle.basis.specs.Test.{_and_, _or_, non}
@@ -26,14 +26,17 @@ use Rattle.own.specs.Lone.{Lone}
 
 -- ---- a loop over all events
 
--- c has the widths of the second accesses below n
+-- c has the widths of the second accesses among the first n
 pub record Gathered (t : List ℕ) (n c : ℕ) : Type 0 where
-  pub lone : c ≡ 0 → Lone t n
-  pub none : Lone t n → c ≡ 0
+  pub lone : c ≡ 0 → (e : ℕ) → 2 * e + 1 < n → shapeIn t (2 * e + 1) .width ≡ 0
+  pub none : Lone t slots → c ≡ 0
 
 pub gathered-none : (t : List ℕ) → Gathered t 0 0
-unfolding Lone
 gathered-none t = record { lone = λ h e l. absurd (omega (arith, l)); none = λ h. refl }
+
+pub gathered-all : (t : List ℕ) (c : ℕ) → Gathered t (2 * slots) c → c ≡ 0 → Lone t slots
+unfolding Lone
+gathered-all t c g h e l = g .lone h e (omega (arith, l))
 
 or-empty : (a b : ℕ) → bitOr a b ≡ 0 → (a ≡ 0) × (b ≡ 0)
 or-empty a b h =
@@ -42,17 +45,26 @@ or-empty a b h =
     let r = and-le-r a b in
     (omega (arith, h, s, l, r), omega (arith, h, s, l, r))
 
-pub gathered-more : (t : List ℕ) (n c w : ℕ) → Gathered t n c → w ≡ shapeIn t (2 * n + 1) .width → Gathered t (n + 1) (bitOr c w)
+pub gathered-more : (t : List ℕ) (n c w : ℕ) → n < 2 * slots → Gathered t n c → w ≡ cond (eqb (n % 2) 1) (shapeIn t n .width) 0 → Gathered t (n + 1) (bitOr c w)
 unfolding Lone
-gathered-more t n c w g is =
+gathered-more t n c w few g is =
     record {
-      lone = λ h e l. let p = or-empty c w h in go e l (p .0) (p .1) (ℕ-discrete e n);
-      none = λ h. (λ i. bitOr (g .none (λ e l. h e (omega arith)) i) ((is ∙ h n (omega arith)) i));
+      lone = λ h e l. let p = or-empty c w h in go e l (p .0) (p .1) (ℕ-discrete (2 * e + 1) n);
+      none = λ h. (λ i. bitOr (g .none h i) ((is ∙ nothing h (eqb (n % 2) 1) refl) i));
     }
   where
-    go : (e : ℕ) → e < n + 1 → c ≡ 0 → w ≡ 0 → Dec (e ≡ n) → shapeIn t (2 * e + 1) .width ≡ 0
-    go e l p q (yes z) = ap (λ (i : ℕ). shapeIn t (2 * i + 1) .width) z ∙ sym is ∙ q
+    go : (e : ℕ) → 2 * e + 1 < n + 1 → c ≡ 0 → w ≡ 0 → Dec (2 * e + 1 ≡ n) → shapeIn t (2 * e + 1) .width ≡ 0
+    go e l p q (yes z) =
+        let odd : n % 2 ≡ 1 = omega (arith, z) in
+        ap (λ (i : ℕ). shapeIn t i .width) z ∙ sym (ap (λ (b : Bool). cond b (shapeIn t n .width) 0) (eq-eqb (n % 2) 1 odd)) ∙ sym is ∙ q
     go e l p q (no z) = g .lone p e (omega (arith, l, z))
+
+    nothing : ((e : ℕ) → e < slots → shapeIn t (2 * e + 1) .width ≡ 0) → (b : Bool) → eqb (n % 2) 1 ≡ b → cond (eqb (n % 2) 1) (shapeIn t n .width) 0 ≡ 0
+    nothing h true z =
+        let odd = eqb-true (n % 2) 1 z in
+        let half : 2 * (n / 2) + 1 ≡ n = omega (arith, odd) in
+        ap (λ (b : Bool). cond b (shapeIn t n .width) 0) z ∙ sym (ap (λ (i : ℕ). shapeIn t i .width) half) ∙ h (n / 2) (omega (arith, few))
+    nothing h false z = ap (λ (b : Bool). cond b (shapeIn t n .width) 0) z
 
 -- ---- first accesses alone
 

@@ -5,6 +5,7 @@ use cells::place;
 use cells::take;
 use sets::SLOTS;
 use sets::least;
+use tables::ACCESSES;
 use tables::AGENTS;
 use tables::COLUMNS;
 ghost use mathlib.Core.Path.{_≡_};
@@ -52,14 +53,22 @@ pub fn met(t: &[u8; COLUMNS], n: usize, e: usize) -> u32
     s
 }
 
-// Has no event a second access? All slots are looked at, without a jump: a row may name any event.
+// The width of access k, or nothing where k is a first one.
+fn second(k: usize, width: u8) -> u8
+    ensures { λ r. ⌜ r ≡ cond (eqb (k % 2) 1) width 0 ⌝ }
+{
+    if k % 2 == 1 { width } else { 0 }
+}
+
+// Has no event a second access? All slots are looked at, one after another and without a jump, so that the machine takes several at once: a row may
+// name any event.
 pub fn lone(t: &[u8; COLUMNS]) -> bool
     ensures { λ r. ⌜ Tells r (Lone (now (t .entry)) slots) ⌝ }
 {
     let mut c = 0;
-    for e in 0..SLOTS {
-        let a = tables::shape(t, 2 * e + 1);
-        c = c | a.width;
+    for k in 0..ACCESSES {
+        let a = tables::shape(t, k);
+        c = c | second(k, a.width);
     }
     c == 0
 }

@@ -1,5 +1,5 @@
 -- The laws of specs/steps/Linked.antt: a step more, and the closure stays one. Assumes nothing.
---     Changed, changed-.., grew-more, grew-all, merged-all, beyond-none, beyond-more, beyond-all, beyond-picked     loops over places
+--     Changed, changed-.., grew-more, grew-all, Going, merged-all, beyond-none, beyond-more, beyond-all, beyond-picked     loops over places
 --     grew-mem                    what a mask has after
 --     link-on                     a leads to more, and so does all that leads to a
 --     link-known, step-old        a step that there is a way for adds nothing
@@ -100,6 +100,10 @@ grew-all m x w l l′ h c = record { size = c .size; each = λ e b. go e (decLt 
     go : (e : ℕ) → Dec (e < w) → getD l′ e 0 ≡ grewAt m x l e
     go e (yes q) = c .done e q
     go e (no q) = c .left e (omega (arith, q)) ∙ sym (ap (λ (b : Bool). cond b (bitOr (getD l e 0) x) (getD l e 0)) (mem-beyond w m e h (omega (arith, q))))
+
+-- from w on, up to e: whatever was done below w stays, and the places from there are done
+abbrev pub Going : ℕ → ℕ → ℕ → List ℕ → ℕ → List ℕ → Type 0
+Going m x w l₀ e l′ = (l : List ℕ) → length l ≡ slots → Changed (grewAt m x l) w l l₀ → Changed (grewAt m x l) e l l′
 
 abbrev pub mergedAt : List ℕ → List ℕ → ℕ → ℕ
 mergedAt l m e = bitOr (getD l e 0) (getD m e 0)

@@ -89,19 +89,19 @@ fn grow(masks: &mut [u32], m: u32, x: u32)
     requires { ⌜ length (now masks) ≡ slots ⌝ }
     ensures { λ _. ⌜ Grew m x (now (masks .entry)) (now (masks .exit)) ⌝ }
 {
+    for e in 0..12usize {
+        masks[e] = gained(masks[e], sets::has(m, e), x);
+    }
     if m < 4096 {
-        for e in 0..12usize {
-            masks[e] = gained(masks[e], sets::has(m, e), x);
-        }
         return;
+    }
+    for e in 12..24usize {
+        masks[e] = gained(masks[e], sets::has(m, e), x);
     }
     if m < 16777216 {
-        for e in 0..24usize {
-            masks[e] = gained(masks[e], sets::has(m, e), x);
-        }
         return;
     }
-    for e in 0..SLOTS {
+    for e in 24..SLOTS {
         masks[e] = gained(masks[e], sets::has(m, e), x);
     }
 }
@@ -122,19 +122,19 @@ fn beyond(x: u32, succ: &[u32]) -> u32
     ensures { λ r. ⌜ Beyond slots (now (succ .entry)) x r ⌝ }
 {
     let mut d = x;
+    for k in 0..12usize {
+        d = gained(d, sets::has(x, k), succ[k]);
+    }
     if x < 4096 {
-        for k in 0..12usize {
-            d = gained(d, sets::has(x, k), succ[k]);
-        }
         return d;
+    }
+    for k in 12..24usize {
+        d = gained(d, sets::has(x, k), succ[k]);
     }
     if x < 16777216 {
-        for k in 0..24usize {
-            d = gained(d, sets::has(x, k), succ[k]);
-        }
         return d;
     }
-    for e in 0..SLOTS {
+    for e in 24..SLOTS {
         d = gained(d, sets::has(x, e), succ[e]);
     }
     d

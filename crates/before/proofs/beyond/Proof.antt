@@ -33,7 +33,7 @@ abbrev μ-loop3 : tie.MeasureT-loop3
 μ-loop3 x succ d₀ e₀ d e = slots - e
 
 loop-holds : tie.Need-loop-holds Inv-loop μ-loop Inv-loop2 μ-loop2 Inv-loop3 μ-loop3
-loop-holds c = (omega arith, beyond-none (now (c .before .before .args .succ)) (c .before .before .args .x))
+loop-holds c = (omega arith, beyond-none (now (c .before .args .succ)) (c .before .args .x))
 
 has-requires : tie.Need-has-requires Inv-loop μ-loop Inv-loop2 μ-loop2 Inv-loop3 μ-loop3
 has-requires c κs = search needs
@@ -42,7 +42,7 @@ mul-gained : tie.Need-mul-gained Inv-loop μ-loop Inv-loop2 μ-loop2 Inv-loop3 �
 mul-gained c = search needs
 
 shared-slice-read-gained : tie.Need-shared-slice-read-gained Inv-loop μ-loop Inv-loop2 μ-loop2 Inv-loop3 μ-loop3
-shared-slice-read-gained c = omega (arith, c .before .before .before .before .before .before .pre, c .before .before .loop-test .taken)
+shared-slice-read-gained c = omega (arith, c .before .before .before .before .before .pre, c .before .before .loop-test .taken)
 
 gained-requires : tie.Need-gained-requires Inv-loop μ-loop Inv-loop2 μ-loop2 Inv-loop3 μ-loop3
 gained-requires c κs = search needs
@@ -55,7 +55,7 @@ loop-less c = search needs
 
 loop-again : tie.Need-loop-again Inv-loop μ-loop Inv-loop2 μ-loop2 Inv-loop3 μ-loop3
 loop-again c =
-    let a = c .before .before .before .before .before .before .before .args in
+    let a = c .before .before .before .before .before .before .args in
     let l = c .before .before .before .before .loop in
     let slot : l .k % slots ≡ l .k = mod-eq-of-lt (omega (arith, c .before .before .before .loop-test .taken)) in
     let is = c .gained .ensures ∙ ap (λ (b : Bool). cond b (bitOr (l .d) (getD (now (a .succ)) (l .k) 0)) (l .d)) (c .before .before .has .ensures ∙ ap (mem (a .x)) slot) in
@@ -64,12 +64,16 @@ loop-again c =
 returns : tie.Need-returns Inv-loop μ-loop Inv-loop2 μ-loop2 Inv-loop3 μ-loop3
 returns c =
     let a = c .before .before .before .before .args in
-    let l = c .before .loop in
+    let l = c .before .before .loop in
     let k : l .k ≡ 12 = omega arith in
-    beyond-all 12 (now (a .succ)) (a .x) (l .d) (omega arith) (c .before .before .if1 .taken) (subst (λ (i : ℕ). Beyond i (now (a .succ)) (a .x) (l .d)) k (l .inv .1))
+    beyond-all 12 (now (a .succ)) (a .x) (l .d) (omega arith) (c .if1 .taken) (subst (λ (i : ℕ). Beyond i (now (a .succ)) (a .x) (l .d)) k (l .inv .1))
 
 loop2-holds : tie.Need-loop2-holds Inv-loop μ-loop Inv-loop2 μ-loop2 Inv-loop3 μ-loop3
-loop2-holds c = (omega arith, beyond-none (now (c .before .before .before .args .succ)) (c .before .before .before .args .x))
+loop2-holds c =
+    let a = c .before .before .before .before .args in
+    let l = c .before .before .loop in
+    let k : l .k ≡ 12 = omega arith in
+    (omega arith, subst (λ (i : ℕ). Beyond i (now (a .succ)) (a .x) (l .d)) k (l .inv .1))
 
 has-requires-2 : tie.Need-has-requires-2 Inv-loop μ-loop Inv-loop2 μ-loop2 Inv-loop3 μ-loop3
 has-requires-2 c κs = search needs
@@ -78,7 +82,7 @@ mul-gained-2 : tie.Need-mul-gained-2 Inv-loop μ-loop Inv-loop2 μ-loop2 Inv-loo
 mul-gained-2 c = search needs
 
 shared-slice-read-gained-2 : tie.Need-shared-slice-read-gained-2 Inv-loop μ-loop Inv-loop2 μ-loop2 Inv-loop3 μ-loop3
-shared-slice-read-gained-2 c = omega (arith, c .before .before .before .before .before .before .before .pre, c .before .before .loop2-test .taken)
+shared-slice-read-gained-2 c = omega (arith, c .before .before .before .before .before .before .before .before .pre, c .before .before .loop2-test .taken)
 
 gained-requires-2 : tie.Need-gained-requires-2 Inv-loop μ-loop Inv-loop2 μ-loop2 Inv-loop3 μ-loop3
 gained-requires-2 c κs = search needs
@@ -91,7 +95,7 @@ loop2-less c = search needs
 
 loop2-again : tie.Need-loop2-again Inv-loop μ-loop Inv-loop2 μ-loop2 Inv-loop3 μ-loop3
 loop2-again c =
-    let a = c .before .before .before .before .before .before .before .before .args in
+    let a = c .before .before .before .before .before .before .before .before .before .args in
     let l = c .before .before .before .before .loop2 in
     let slot : l .k % slots ≡ l .k = mod-eq-of-lt (omega (arith, c .before .before .before .loop2-test .taken)) in
     let is = c .gained2 .ensures ∙ ap (λ (b : Bool). cond b (bitOr (l .d) (getD (now (a .succ)) (l .k) 0)) (l .d)) (c .before .before .has2 .ensures ∙ ap (mem (a .x)) slot) in
@@ -99,13 +103,17 @@ loop2-again c =
 
 returns-2 : tie.Need-returns-2 Inv-loop μ-loop Inv-loop2 μ-loop2 Inv-loop3 μ-loop3
 returns-2 c =
-    let a = c .before .before .before .before .before .args in
-    let l = c .before .loop2 in
+    let a = c .before .before .before .before .before .before .before .args in
+    let l = c .before .before .loop2 in
     let k : l .k ≡ 24 = omega arith in
-    beyond-all 24 (now (a .succ)) (a .x) (l .d) (omega arith) (c .before .before .if2 .taken) (subst (λ (i : ℕ). Beyond i (now (a .succ)) (a .x) (l .d)) k (l .inv .1))
+    beyond-all 24 (now (a .succ)) (a .x) (l .d) (omega arith) (c .if2 .taken) (subst (λ (i : ℕ). Beyond i (now (a .succ)) (a .x) (l .d)) k (l .inv .1))
 
 loop3-holds : tie.Need-loop3-holds Inv-loop μ-loop Inv-loop2 μ-loop2 Inv-loop3 μ-loop3
-loop3-holds c = (omega arith, beyond-none (now (c .before .before .before .args .succ)) (c .before .before .before .args .x))
+loop3-holds c =
+    let a = c .before .before .before .before .before .before .before .args in
+    let l = c .before .before .loop2 in
+    let k : l .k ≡ 24 = omega arith in
+    (omega arith, subst (λ (i : ℕ). Beyond i (now (a .succ)) (a .x) (l .d)) k (l .inv .1))
 
 has-requires-3 : tie.Need-has-requires-3 Inv-loop μ-loop Inv-loop2 μ-loop2 Inv-loop3 μ-loop3
 has-requires-3 c κs = search needs
@@ -114,7 +122,7 @@ mul-gained-3 : tie.Need-mul-gained-3 Inv-loop μ-loop Inv-loop2 μ-loop2 Inv-loo
 mul-gained-3 c = search needs
 
 shared-slice-read-gained-3 : tie.Need-shared-slice-read-gained-3 Inv-loop μ-loop Inv-loop2 μ-loop2 Inv-loop3 μ-loop3
-shared-slice-read-gained-3 c = omega (arith, c .before .before .before .before .before .before .before .pre, c .before .before .loop3-test .taken)
+shared-slice-read-gained-3 c = omega (arith, c .before .before .before .before .before .before .before .before .before .before .before .pre, c .before .before .loop3-test .taken)
 
 gained-requires-3 : tie.Need-gained-requires-3 Inv-loop μ-loop Inv-loop2 μ-loop2 Inv-loop3 μ-loop3
 gained-requires-3 c κs = search needs
@@ -127,7 +135,7 @@ loop3-less c = search needs
 
 loop3-again : tie.Need-loop3-again Inv-loop μ-loop Inv-loop2 μ-loop2 Inv-loop3 μ-loop3
 loop3-again c =
-    let a = c .before .before .before .before .before .before .before .before .args in
+    let a = c .before .before .before .before .before .before .before .before .before .before .before .before .args in
     let l = c .before .before .before .before .loop3 in
     let slot : l .e % slots ≡ l .e = mod-eq-of-lt (omega (arith, c .before .before .before .loop3-test .taken)) in
     let is = c .gained3 .ensures ∙ ap (λ (b : Bool). cond b (bitOr (l .d) (getD (now (a .succ)) (l .e) 0)) (l .d)) (c .before .before .has3 .ensures ∙ ap (mem (a .x)) slot) in
@@ -135,7 +143,7 @@ loop3-again c =
 
 returns-3 : tie.Need-returns-3 Inv-loop μ-loop Inv-loop2 μ-loop2 Inv-loop3 μ-loop3
 returns-3 c =
-    let a = c .before .before .before .before .before .args in
+    let a = c .before .before .before .before .before .before .before .before .before .args in
     let l = c .before .loop3 in
     let k : l .e ≡ slots = omega arith in
     subst (λ (i : ℕ). Beyond i (now (a .succ)) (a .x) (l .d)) k (l .inv .1)

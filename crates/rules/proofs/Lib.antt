@@ -1,3 +1,2 @@
 pub mod RulesLaws
-pub mod CoverLaws
 pub mod StirredLaws

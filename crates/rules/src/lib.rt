@@ -2,7 +2,6 @@
 use answer::Names;
 use answer::Rule;
 use format::Row;
-use format::Shape;
 use sets::SLOTS;
 use sets::least;
 use tables::ACCESSES;
@@ -10,7 +9,7 @@ use tables::COLUMNS;
 use tables::ROW_CELLS;
 use tables::ROWS;
 ghost use mathlib.Core.Path.{_≡_};
-ghost use Prim.Native.Nat.{ℕ, _%_, _<_, min};
+ghost use Prim.Native.Nat.{ℕ, _%_, min};
 ghost use Rattle.basis.specs.Test.{_and_};
 ghost use Rattle.sets.specs.Tells.{Tells};
 ghost use Rattle.sets.specs.Mask.{slots, mem};
@@ -18,13 +17,7 @@ ghost use Rattle.cells.specs.First.{firstOf};
 ghost use Rattle.tables.specs.Tables.{rowRoom, writesIn};
 ghost use Rattle.torn.specs.Torn.{sourcesIn, rule25In};
 ghost use Rattle.rules.specs.Rules.{unlikeIn, cyclicIn, turnedIn, betweenIn, overIn, rule21In, rule22In, rule23In, rule24In, restIn, ruleIn};
-ghost use Rattle.rules.specs.steps.Cover.{nearRoom, Covered, farOf, Covering, mayWriteIn};
-ghost use Rattle.rules.specs.steps.Stirred.{Unlike, stirredIn};
-
-// The flat bytes of which it is known who writes them; and eight more, so that an access that begins among them ends within.
-const NEAR: usize = 64;
-
-const BYTES: usize = 72;
+ghost use Rattle.rules.specs.steps.Stirred.{Unlike};
 
 // ---- 21, 22, 23
 
@@ -143,59 +136,6 @@ fn differ(q: &[u8; ROW_CELLS], n: usize) -> bool
         c = c | (rows::seen(q, j) ^ rows::wrote(q, j));
     }
     c != 0
-}
-
-// The masks of the bytes from k on, as many as the width says and at most eight, gain x.
-fn cover(bytes: &mut [u32; BYTES], k: usize, width: u8, x: u32)
-    requires { ⌜ k < nearRoom ⌝ }
-    ensures { λ _. ⌜ Covered k (min width 8) x (now (bytes .entry)) (now (bytes .exit)) ⌝ }
-{
-    for i in 0..8usize {
-        bytes[k + i] = bytes[k + i] | sets::only(i < width as usize, x);
-    }
-}
-
-// Is more to be known of an event than the eight bytes from the start of its first access a on, by their places among 64? b is its second access.
-fn is_far(a: Shape, b: Shape) -> bool
-    ensures { λ r. ⌜ r ≡ farOf a b ⌝ }
-{
-    (8 < a.width) | ((63 < a.start) | (b.width != 0))
-}
-
-// For each of the first bytes the events below n whose first access writes it; the answer has those of which more is to be known, and all from n on.
-fn covering(t: &[u8; COLUMNS], n: usize, bytes: &mut [u32; BYTES]) -> u32
-    ensures { λ r. ⌜ Covering (now (t .entry)) (min n slots) (min n slots) (now (bytes .entry)) (now (bytes .exit)) r ⌝ }
-{
-    let m = least(n, SLOTS);
-    let mut far = !sets::full(m);
-    for e in 0..m {
-        let a = tables::shape(t, 2 * e);
-        let b = tables::shape(t, 2 * e + 1);
-        far = cells::take(far, e, is_far(a, b));
-        let x = cells::take(0, e, access::writes(a));
-        cover(bytes, a.start as usize % NEAR, a.width, x);
-    }
-    far
-}
-
-// The events that may write the flat byte a.
-fn may_write(far: u32, bytes: &[u32; BYTES], a: u8) -> u32
-    ensures { λ r. ⌜ r ≡ mayWriteIn far (now (bytes .entry)) a ⌝ }
-{
-    let i = a as usize;
-    if i < NEAR {
-        return far | bytes[i];
-    }
-    4294967295
-}
-
-// What may be amiss with a row: 23, its reader happens before its writer; 24, what lies between the two and may write its byte.
-fn stirred(r: Row, succ: &[u32; SLOTS], pred: &[u32; SLOTS], far: u32, bytes: &[u32; BYTES]) -> u32
-    ensures { λ x. ⌜ x ≡ stirredIn (now (succ .entry)) (now (pred .entry)) far (now (bytes .entry)) r ⌝ }
-{
-    let e = r.reader as usize % SLOTS;
-    let w = r.writer as usize % SLOTS;
-    sets::only(sets::has(succ[e], w), 1) | (succ[w] & pred[e] & may_write(far, bytes, r.address))
 }
 
 // ---- the first that is broken

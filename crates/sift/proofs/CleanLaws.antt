@@ -42,9 +42,9 @@ use Rattle.torn.proofs.NoticedLaws.{or-nothing}
 use Rattle.torn.proofs.TornLaws.{row-gains, row-keeps, sources-none, sources-length, sources-more}
 use Rattle.torn.proofs.DoubledLaws.{not-doubled}
 use Rattle.rules.specs.Rules.{cyclicIn, turnedIn, betweenIn, overIn, restIn}
-use Rattle.rules.specs.steps.Cover.{nearRoom}
+use Rattle.sift.specs.Cover.{nearRoom}
 use Rattle.rules.proofs.RulesLaws.{turned-is, rule22-no, rule23-no, rule24-no}
-use Rattle.rules.proofs.CoverLaws.{covers-parts, by-first}
+use Rattle.sift.proofs.CoverLaws.{covers-parts, by-first}
 use Rattle.bars.specs.steps.Covered.{coveredIn}
 use Rattle.bars.proofs.CoveredLaws.{covered-reader, covered-writer}
 use Rattle.sift.specs.Clean.{wideOf, nearTo, Telling, stirsIn, wholeIn, runOf, lastIn, runIn, RowAmiss, AmissAt, Clean}

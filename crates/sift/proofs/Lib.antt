@@ -3,3 +3,4 @@ pub mod NotedLaws
 pub mod AlikesLaws
 pub mod NearLaws
 pub mod CleanLaws
+pub mod CoverLaws

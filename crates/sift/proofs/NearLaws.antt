@@ -19,7 +19,7 @@ use Rattle.sets.specs.Mask.{slots, mem, Has, insert, remove, full}
 use Rattle.sets.proofs.MaskLaws.{mem-or, mem-empty, mem-insert, mem-compl, mem-full, full-has, lt-of-members, remove-old, remove-lt}
 use Rattle.cells.proofs.WalkLaws.{mem-picked}
 use Rattle.tables.specs.Tables.{shapeIn}
-use Rattle.rules.specs.steps.Cover.{nearRoom, Covered}
+use Rattle.sift.specs.Cover.{nearRoom, Covered}
 use Rattle.sift.specs.Clean.{wideOf, nearTo, Telling}
 use Rattle.sift.specs.steps.Noted.{NotedIn}
 use Rattle.sift.specs.steps.Near.{Near}

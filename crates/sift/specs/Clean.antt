@@ -31,7 +31,7 @@ use Rattle.own.specs.Lone.{Lone}
 use Rattle.torn.specs.steps.Noticed.{Among}
 use Rattle.torn.specs.steps.Doubled.{Twice}
 use Rattle.rules.specs.Rules.{cyclicIn}
-use Rattle.rules.specs.steps.Cover.{nearRoom}
+use Rattle.sift.specs.Cover.{nearRoom}
 use Rattle.bars.specs.steps.Covered.{coveredIn}
 
 unfoldable pub wideOf : Shape → Bool

@@ -1,3 +1,4 @@
 pub mod Clean
 pub mod Sieve
 pub mod steps
+pub mod Cover

@@ -26,7 +26,7 @@ ghost use Rattle.bars.specs.Bars.{reasonsIn, maskIn};
 ghost use Rattle.bars.specs.steps.Covered.{coveredIn};
 ghost use Rattle.bars.specs.steps.Entering.{Entering};
 ghost use Rattle.rules.specs.Rules.{cyclicIn};
-ghost use Rattle.rules.specs.steps.Cover.{nearRoom, Covered};
+ghost use Rattle.sift.specs.Cover.{nearRoom, Covered};
 ghost use Rattle.sift.specs.Clean.{stirsIn, wholeIn, runOf, RowAmiss};
 ghost use Rattle.sift.specs.Sieve.{Sieve};
 ghost use Rattle.sift.specs.steps.Noted.{NotedIn};
@@ -311,7 +311,7 @@ fn pass(
     }
 }
 
-// Whether nothing of 22 to 25 is amiss, and a list of the bars: that of `bars::list`, where it is so.
+// Whether nothing of 22 to 25 is amiss, and where it is so a list of the bars (Listed, crate bars).
 pub fn sift(
     inits: usize,
     t: &[u8; COLUMNS],

@@ -8,8 +8,8 @@ use borrow.Author.Tests.{lt-ltb}
 use denote.Ref.{now}
 use lib.Bits.{bitOr}
 use lib.ListN.{getD}
-use Rattle.rules.specs.steps.Cover.{Covered}
-use Rattle.rules.proofs.CoverLaws.{covered-none, covered-more}
+use Rattle.sift.specs.Cover.{Covered}
+use Rattle.sift.proofs.CoverLaws.{covered-none, covered-more}
 use Rattle.sift.proofs.cover.Statement.{statement}
 use Rattle.sift.proofs.cover.Tie as tie
 

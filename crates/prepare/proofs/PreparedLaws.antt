@@ -1,9 +1,10 @@
 -- The laws of specs/Prepared.antt. Assumes nothing.
 --     ruled-bytes, ruled-found     how the code's answers are made: by 21, and by happens-before
 --     readied-bytes, -clean, -rest     the same with the list: by 21, where one pass found nothing, by the rules one after another
+--     readied-listed                   a count below `listRoom` is that of a list of what the rows bar
 --     ruled-unique                 two conforming results are equal: happens-before and the rule, and the masks where none is broken
-use mathlib.Core.Path.{_≡_, refl, sym, ap, _∙_}
-use mathlib.Core.Bool.{Bool, true, false, false≢true}
+use mathlib.Core.Path.{_≡_, refl, sym, ap, _∙_, subst}
+use mathlib.Core.Bool.{Bool, true, false, cond, false≢true}
 use mathlib.Core.List.{List}
 use Prim.Native.Nat.{ℕ, _<_, min}
 use native.Mathlib.Omega.{arith}
@@ -60,15 +61,32 @@ module _ (s : List ℕ) (x : Counts) (t q succ pred : List ℕ) where
   module _ {p : List ℕ} (e : p ≡ table) {succ′ pred′ : List ℕ}
       (o : ClosedSteps t (min (x .events) slots) q (min (x .rows) rowRoom) p (min (x .pairs) pairRoom) succ succ′ pred pred′)
       {rule : Rule} (kept : rule ≡ rule21In q (min (x .rows) rowRoom)) (is : rule ≡ Kept) {between readers writers : List ℕ} where
-    pub readied-clean : {r : Sifted} → Sieve t (min (x .events) slots) succ′ pred′ q (x .inits) (min (x .rows) rowRoom) r between readers writers → r .clean ≡ true
-        → Readied s x t q succ succ′ pred pred′ (record { rule = Kept; count = r .count }) between readers writers
-    unfolding ruleIn
-    readied-clean f h = record { ruled = ruled-found e o (also-later (sym is ∙ kept) (sym (f .kept h))); listed = λ k l. f .listed h }
+    module _ {f : Sifted} (found : Sieve t (min (x .events) slots) succ′ pred′ q (x .inits) (min (x .rows) rowRoom) f between readers writers) where
+      pub readied-clean : f .clean ≡ true → Readied s x t q succ succ′ pred pred′ (record { rule = Kept; count = f .count }) between readers writers
+      unfolding ruleIn
+      readied-clean h =
+          record { ruled = ruled-found e o (also-later (sym is ∙ kept) (sym (found .kept h))); listed = λ k. (f, found, sym (ap (λ (b : Bool). cond b (f .count) listRoom) h)) }
 
-    pub readied-rest : {r : Rule} → r ≡ restIn t (min (x .events) slots) succ′ pred′ q (min (x .rows) rowRoom)
-        → Readied s x t q succ succ′ pred pred′ (record { rule = r; count = listRoom }) between readers writers
-    unfolding ruleIn
-    readied-rest h = record { ruled = ruled-found e o (also-later (sym is ∙ kept) h); listed = λ k l. absurd (omega (arith, l)) }
+      pub readied-rest : f .clean ≡ false → {r : Rule} → r ≡ restIn t (min (x .events) slots) succ′ pred′ q (min (x .rows) rowRoom)
+          → Readied s x t q succ succ′ pred pred′ (record { rule = r; count = listRoom }) between readers writers
+      unfolding ruleIn
+      readied-rest n h =
+          record { ruled = ruled-found e o (also-later (sym is ∙ kept) h); listed = λ k. (f, found, sym (ap (λ (b : Bool). cond b (f .count) listRoom) n)) }
+
+-- a list with room left is that of the pass
+pub readied-listed : {s : List ℕ} {x : Counts} {t q succ succ′ pred pred′ : List ℕ} {r : Found} {between readers writers : List ℕ}
+    → Readied s x t q succ succ′ pred pred′ r between readers writers → r .rule ≡ Kept → r .count < listRoom
+    → Listed t (equalsIn t (min (x .events) slots)) succ′ pred′ q (x .inits) (min (x .rows) rowRoom) (r .count) between readers writers
+readied-listed {x = x} {t} {q} {succ′ = succ′} {pred′ = pred′} {r = r} {between} {readers} {writers} w k room =
+    let f = w .listed k in go (f .0) (f .1) (f .2) (f .0 .clean) refl
+  where
+    go : (f : Sifted) → Sieve t (min (x .events) slots) succ′ pred′ q (x .inits) (min (x .rows) rowRoom) f between readers writers → r .count ≡ cond (f .clean) (f .count) listRoom
+        → (b : Bool) → f .clean ≡ b
+        → Listed t (equalsIn t (min (x .events) slots)) succ′ pred′ q (x .inits) (min (x .rows) rowRoom) (r .count) between readers writers
+    go f p is true h =
+        subst (λ (n : ℕ). Listed t (equalsIn t (min (x .events) slots)) succ′ pred′ q (x .inits) (min (x .rows) rowRoom) n between readers writers)
+        (sym (is ∙ ap (λ (b : Bool). cond b (f .count) listRoom) h)) (p .listed h)
+    go f p is false h = absurd (let z = is ∙ ap (λ (b : Bool). cond b (f .count) listRoom) h in omega (arith, z, room))
 
 pub record Same {s : List ℕ} {x : Counts} {t q succ succ′ pred pred′ next prior : List ℕ} {r a : Rule} (w : Ruled s x t q succ succ′ pred pred′ r)
     (z : Ruled s x t q succ next pred prior a) : Type 0 where

@@ -49,7 +49,7 @@ rest-requires : tie.Need-rest-requires
 rest-requires c κs = search needs
 
 returns-3 : tie.Need-returns-3
-returns-3 c = let a = c .before .before .before .before .before .before .before .before .before .before .before .before .before .before .before .before .before .before .before .before .before .before .before .before .before .args in readied-rest (now (a .s)) (a .x) (now (a .t)) (now (a .q)) (now (a .succ)) (now (a .pred)) (c .before .before .before .before .before .before .before .before .before .before .before .before .before .before .before .pairs .ensures) (c .before .before .before .before .before .before .before .before .before .before .fill .ensures) (c .before .before .before .before .before .before .before .before .before .before .before .before .before .before .before .before .before .before .before .bytes .ensures) (c .before .before .before .before .before .before .before .before .before .before .before .before .before .before .before .before .before .enum-told .given .1) (c .rest .ensures)
+returns-3 c = let a = c .before .before .before .before .before .before .before .before .before .before .before .before .before .before .before .before .before .before .before .before .before .before .before .before .before .args in readied-rest (now (a .s)) (a .x) (now (a .t)) (now (a .q)) (now (a .succ)) (now (a .pred)) (c .before .before .before .before .before .before .before .before .before .before .before .before .before .before .before .pairs .ensures) (c .before .before .before .before .before .before .before .before .before .before .fill .ensures) (c .before .before .before .before .before .before .before .before .before .before .before .before .before .before .before .before .before .before .before .bytes .ensures) (c .before .before .before .before .before .before .before .before .before .before .before .before .before .before .before .before .before .enum-told .given .1) (c .before .before .before .before .sift .ensures) (c .before .before .before .if1 .left) (c .rest .ensures)
 
 pub ready-spec : {M : Type 1} → statement M
 ready-spec =

@@ -1,4 +1,5 @@
 -- `weigh::weigh` meets its contract: a rule of 21 to 25, or the last step. Assumes nothing.
+use Rattle.prepare.proofs.PreparedLaws.{readied-listed}
 use Rattle.weigh.proofs.WeighedLaws.{weighed-broken, weighed-kept}
 use borrow.Author.Needs.{needs}
 use Rattle.weigh.proofs.weigh.Statement.{statement}
@@ -26,7 +27,7 @@ enum-told : tie.Need-enum-told
 enum-told c = search needs
 
 last-requires : tie.Need-last-requires
-last-requires c κs = c .before .before .before .before .before .before .before .before .before .ready .ensures .listed (c .before .before .before .before .before .before .before .enum-told .given .1)
+last-requires c κs = readied-listed (c .before .before .before .before .before .before .before .before .before .ready .ensures) (c .before .before .before .before .before .before .before .enum-told .given .1)
 
 same-length : tie.Need-same-length
 same-length c = search needs

@@ -48,6 +48,17 @@ fn syncs_first(t: &[u8; COLUMNS], r: Row) -> bool
     ranges::both_sc(a, b) & ranges::covers(a, r.address)
 }
 
+// The same, by a flag: `lone` tells whether no event has a second access, and so below.
+fn row_syncs(lone: bool, t: &[u8; COLUMNS], r: Row) -> bool
+    requires { ⌜ Tells lone (Lone (now t) slots) ⌝ }
+    ensures { λ b. ⌜ b ≡ syncIn (now (t .entry)) r ⌝ }
+{
+    if lone {
+        return syncs_first(t, r);
+    }
+    syncs(t, r)
+}
+
 // ---- what an event meets
 
 // The other events below n that e meets, where no event has a second access.
@@ -63,7 +74,7 @@ fn met_first(t: &[u8; COLUMNS], n: usize, e: usize) -> u32
     sets::without(s, e)
 }
 
-// The same, by a flag: `lone` tells whether no event has a second access, and so below.
+// The same, by the flag.
 fn met(lone: bool, t: &[u8; COLUMNS], n: usize, e: usize) -> u32
     requires { ⌜ (n ≤ slots) × (e < slots) × Tells lone (Lone (now t) slots) ⌝ }
     ensures { λ r. ⌜ r ≡ picked n (metIn (now (t .entry)) e) ⌝ }
@@ -192,27 +203,13 @@ fn add_inits(lone: bool, t: &[u8; COLUMNS], n: usize, succ: &mut [u32], cols: &m
 }
 
 // The row's writer leads to its reader, where the two synchronise. One jump for all that adds nothing: a step that there is a way for does not.
-fn add_row_any(t: &[u8; COLUMNS], n: usize, r: Row, succ: &mut [u32], cols: &mut [u32])
-    requires { ⌜ (n ≤ slots) × (length (now succ) ≡ slots) × (length (now cols) ≡ slots) ⌝ }
+fn add_row(lone: bool, t: &[u8; COLUMNS], n: usize, r: Row, succ: &mut [u32], cols: &mut [u32])
+    requires { ⌜ (n ≤ slots) × (length (now succ) ≡ slots) × (length (now cols) ≡ slots) × Tells lone (Lone (now t) slots) ⌝ }
     ensures { λ _. ⌜ Linking n (syncGains (now (t .entry)) r) (now (succ .entry)) (now (cols .entry)) (now (succ .exit)) (now (cols .exit)) ⌝ }
 {
     let a = r.writer as usize % SLOTS;
     let b = r.reader as usize % SLOTS;
-    let adds = syncs(t, r) & !sets::has(succ[a], b);
-    if !adds {
-        return;
-    }
-    step(n, a, b, succ, cols);
-}
-
-// The same where no event has a second access.
-fn add_row_first(t: &[u8; COLUMNS], n: usize, r: Row, succ: &mut [u32], cols: &mut [u32])
-    requires { ⌜ (n ≤ slots) × (length (now succ) ≡ slots) × (length (now cols) ≡ slots) × Lone (now t) slots ⌝ }
-    ensures { λ _. ⌜ Linking n (syncGains (now (t .entry)) r) (now (succ .entry)) (now (cols .entry)) (now (succ .exit)) (now (cols .exit)) ⌝ }
-{
-    let a = r.writer as usize % SLOTS;
-    let b = r.reader as usize % SLOTS;
-    let adds = syncs_first(t, r) & !sets::has(succ[a], b);
+    let adds = row_syncs(lone, t, r) & !sets::has(succ[a], b);
     if !adds {
         return;
     }
@@ -220,42 +217,6 @@ fn add_row_first(t: &[u8; COLUMNS], n: usize, r: Row, succ: &mut [u32], cols: &m
 }
 
 // The steps of the first rows; they count up to the rows that have a place.
-fn add_rows_any(
-    t: &[u8; COLUMNS],
-    n: usize,
-    q: &[u8; ROW_CELLS],
-    rows: usize,
-    succ: &mut [u32],
-    cols: &mut [u32],
-)
-    requires { ⌜ (n ≤ slots) × (length (now succ) ≡ slots) × (length (now cols) ≡ slots) ⌝ }
-    ensures { λ _. ⌜ Linking n (rowStepsIn (now (t .entry)) (now (q .entry)) (min rows rowRoom)) (now (succ .entry)) (now (cols .entry)) (now (succ .exit)) (now (cols .exit)) ⌝ }
-{
-    let m = least(rows, ROWS);
-    for j in 0..m {
-        add_row_any(t, n, rows::row(q, j), succ, cols);
-    }
-}
-
-// The same where no event has a second access.
-fn add_rows_first(
-    t: &[u8; COLUMNS],
-    n: usize,
-    q: &[u8; ROW_CELLS],
-    rows: usize,
-    succ: &mut [u32],
-    cols: &mut [u32],
-)
-    requires { ⌜ (n ≤ slots) × (length (now succ) ≡ slots) × (length (now cols) ≡ slots) × Lone (now t) slots ⌝ }
-    ensures { λ _. ⌜ Linking n (rowStepsIn (now (t .entry)) (now (q .entry)) (min rows rowRoom)) (now (succ .entry)) (now (cols .entry)) (now (succ .exit)) (now (cols .exit)) ⌝ }
-{
-    let m = least(rows, ROWS);
-    for j in 0..m {
-        add_row_first(t, n, rows::row(q, j), succ, cols);
-    }
-}
-
-// The same, by the flag: a loop for each, so that no row asks for it.
 fn add_rows(
     lone: bool,
     t: &[u8; COLUMNS],
@@ -268,11 +229,10 @@ fn add_rows(
     requires { ⌜ (n ≤ slots) × (length (now succ) ≡ slots) × (length (now cols) ≡ slots) × Tells lone (Lone (now t) slots) ⌝ }
     ensures { λ _. ⌜ Linking n (rowStepsIn (now (t .entry)) (now (q .entry)) (min rows rowRoom)) (now (succ .entry)) (now (cols .entry)) (now (succ .exit)) (now (cols .exit)) ⌝ }
 {
-    if lone {
-        add_rows_first(t, n, q, rows, succ, cols);
-        return;
+    let m = least(rows, ROWS);
+    for j in 0..m {
+        add_row(lone, t, n, rows::row(q, j), succ, cols);
     }
-    add_rows_any(t, n, q, rows, succ, cols);
 }
 
 // The steps of the first pairs, from the first of a pair to its second; they count up to the pairs that have a place.

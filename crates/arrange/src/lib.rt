@@ -1,4 +1,5 @@
-// The last step over tables, where no rule of 21 to 25 is broken: the bars, the search, and the unsettled pair. The first order, or 26.
+// The last step over tables, where no rule of 21 to 25 is broken: the bars, the search, and the unsettled pair. The first order, or 26. Crate `weigh`
+// puts the two functions together, or takes a list of bars.
 use answer::Answer;
 use answer::Names;
 use sets::SLOTS;
@@ -9,13 +10,13 @@ ghost use Prim.Native.Nat.{min};
 ghost use Rattle.sets.specs.Mask.{slots};
 ghost use Rattle.settle.specs.Settle.{settledIn};
 ghost use Rattle.orders.specs.Answer.{Answered};
-ghost use Rattle.arrange.specs.Arranged.{barsOf, saidOf, Arranged};
+ghost use Rattle.arrange.specs.Arranged.{barsOf, saidOf};
 
 // How many masks of bars there are: one for each V and W.
 const BARS: usize = SLOTS * SLOTS;
 
-// Whether there is an order, and the first one, by the table of all bars.
-fn by_table(
+// Whether there is an order, and the first one, by the table of all bars; it goes to the front of the order buffer.
+pub fn by_table(
     inits: usize,
     events: usize,
     rows: usize,
@@ -42,23 +43,4 @@ pub fn said(found: bool, t: &[u8; COLUMNS], succ: &[u32; SLOTS], events: usize) 
     }
     let settled = settle::settle(t, succ, events);
     Answer::Consistent(settled)
-}
-
-// The answer on tables of so many inits, events and rows, with happens-before by rows and by columns, where the bars are not listed; the order goes
-// to the front of the order buffer.
-pub fn arrange(
-    inits: usize,
-    events: usize,
-    rows: usize,
-    t: &[u8; COLUMNS],
-    q: &[u8; ROW_CELLS],
-    succ: &[u32; SLOTS],
-    pred: &[u32; SLOTS],
-    scratch: &mut [u8],
-    order: &mut [u8],
-) -> Answer
-    ensures { λ r. ⌜ Arranged inits events rows (now (t .entry)) (now (q .entry)) (now (succ .entry)) (now (pred .entry)) (now (scratch .entry)) (now (order .entry)) r (now (scratch .exit)) (now (order .exit)) ⌝ }
-{
-    let found = by_table(inits, events, rows, t, q, succ, pred, scratch, order);
-    said(found, t, succ, events)
 }

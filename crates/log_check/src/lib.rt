@@ -1,6 +1,5 @@
 // A sheet and a lent list of event numbers (02 §5): the sheet's own refusal or broken rule first, then what is said of the list. No scratch and no
 // order buffer.
-use answer::Answer;
 use answer::Names;
 use answer::Rule;
 use entries::Counts;
@@ -85,13 +84,16 @@ fn said_word(s: Said) -> u64
     }
 }
 
-// The number that the suite's harness gets.
+// The number that the suite's harness gets. A refusal and a broken rule have the judge's own words; they are made here of their parts, as
+// `answer::pack`, with one caller, is put in place in the judge.
 pub fn pack(x: Reply) -> u64
     ensures { λ r. ⌜ r ≡ checkedWord x ⌝ }
 {
     match x {
-        Reply::Refused(number, place) => answer::pack(Answer::Refused(number, place)),
-        Reply::Broken(number, names) => answer::pack(Answer::Broken(number, names)),
+        Reply::Refused(number, place) => answer::word(1, number, place),
+        Reply::Broken(number, names) => {
+            answer::word(2, number, answer::four_bytes(answer::names_of(names)))
+        }
         Reply::Listed(s) => said_word(s),
     }
 }

@@ -1,5 +1,5 @@
 -- The laws of specs/Prepared.antt. Assumes nothing.
---     ruled-bytes, ruled-found     how the code's answers are made: by 21, and by happens-before
+--     ruled-bytes, ruled-found, ruled-rest     how the code's answers are made: by 21, by happens-before, and by the rules one after another
 --     readied-bytes, -clean, -rest     the same with the list: by 21, where one pass found nothing, by the rules one after another
 --     readied-listed                   a count below `listRoom` is that of a list of what the rows bar
 --     ruled-unique                 two conforming results are equal: happens-before and the rule, and the masks where none is broken
@@ -54,6 +54,14 @@ module _ (s : List ℕ) (x : Counts) (t q succ pred : List ℕ) where
       → r ≡ ruleIn t (min (x .events) slots) succ′ pred′ q (min (x .rows) rowRoom) → Ruled s x t q succ succ′ pred pred′ r
   ruled-found {p} e {succ′} {pred′} o h = record { p = p; pairs = e; after = succ′; before = pred′; ordered = o; says = h; left = λ k. (refl, refl) }
 
+  -- 21 is kept, and then the other rules are asked
+  pub ruled-rest : {p : List ℕ} → p ≡ table → {succ′ pred′ : List ℕ}
+      → ClosedSteps t (min (x .events) slots) q (min (x .rows) rowRoom) p (min (x .pairs) pairRoom) succ succ′ pred pred′
+      → {rule : Rule} → rule ≡ rule21In q (min (x .rows) rowRoom) → rule ≡ Kept
+      → {r : Rule} → r ≡ restIn t (min (x .events) slots) succ′ pred′ q (min (x .rows) rowRoom) → Ruled s x t q succ succ′ pred pred′ r
+  unfolding ruleIn
+  ruled-rest e o kept is h = ruled-found e o (also-later (sym is ∙ kept) h)
+
   pub readied-bytes : {n : ℕ} {names : Names} {rule : Rule} → rule ≡ rule21In q (min (x .rows) rowRoom) → rule ≡ Breach n names
       → {succ′ pred′ between readers writers : List ℕ} → Readied s x t q succ succ′ pred pred′ (record { rule = Breach n names; count = listRoom }) between readers writers
   readied-bytes e h = record { ruled = ruled-bytes e h; listed = λ k. absurd (breach-kept k) }
@@ -69,9 +77,8 @@ module _ (s : List ℕ) (x : Counts) (t q succ pred : List ℕ) where
 
       pub readied-rest : f .clean ≡ false → {r : Rule} → r ≡ restIn t (min (x .events) slots) succ′ pred′ q (min (x .rows) rowRoom)
           → Readied s x t q succ succ′ pred pred′ (record { rule = r; count = listRoom }) between readers writers
-      unfolding ruleIn
       readied-rest n h =
-          record { ruled = ruled-found e o (also-later (sym is ∙ kept) h); listed = λ k. (f, found, sym (ap (λ (b : Bool). cond b (f .count) listRoom) n)) }
+          record { ruled = ruled-rest e o kept is h; listed = λ k. (f, found, sym (ap (λ (b : Bool). cond b (f .count) listRoom) n)) }
 
 -- a list with room left is that of the pass
 pub readied-listed : {s : List ℕ} {x : Counts} {t q succ succ′ pred pred′ : List ℕ} {r : Found} {between readers writers : List ℕ}

@@ -12,10 +12,46 @@ ghost use Rattle.sets.specs.Mask.{slots};
 ghost use Rattle.tables.specs.Tables.{rowRoom};
 ghost use Rattle.alike.specs.Ranges.{equalsIn};
 ghost use Rattle.bars.specs.Listed.{listRoom, Listed};
-ghost use Rattle.arrange.specs.Arranged.{Arranged};
+ghost use Rattle.orders.specs.Answer.{Answered};
+ghost use Rattle.arrange.specs.Arranged.{barsOf, Arranged};
 ghost use Rattle.weigh.specs.Weighed.{Weighed};
 
-// The last step, by the list of bars where it has all, which is mostly little.
+// Whether there is an order, and the first one: by the list of bars where it has all, which is mostly little.
+fn seek(
+    inits: usize,
+    events: usize,
+    rows: usize,
+    t: &[u8; COLUMNS],
+    q: &[u8; ROW_CELLS],
+    succ: &[u32; SLOTS],
+    pred: &[u32; SLOTS],
+    between: &[u32; LIST],
+    readers: &[u8; LIST],
+    writers: &[u8; LIST],
+    count: usize,
+    scratch: &mut [u8],
+    order: &mut [u8],
+) -> bool
+    requires { ⌜ (count < listRoom → Listed (now t) (equalsIn (now t) (min events slots)) (now succ) (now pred) (now q) inits (min rows rowRoom) count (now between) (now readers) (now writers)) ⌝ }
+    ensures { λ r. ⌜ Answered inits events (now (pred .entry)) (barsOf (now (t .entry)) events (now (succ .entry)) (now (pred .entry)) (now (q .entry)) rows) (now (scratch .entry)) (now (order .entry)) r (now (scratch .exit)) (now (order .exit)) ⌝ }
+{
+    if count < LIST {
+        return orders::first_listed(
+            inits,
+            events,
+            pred,
+            between,
+            readers,
+            writers,
+            count,
+            scratch,
+            order,
+        );
+    }
+    arrange::by_table(inits, events, rows, t, q, succ, pred, scratch, order)
+}
+
+// The last step. What is said has one caller, so that the compiler puts it in place.
 fn last(
     inits: usize,
     events: usize,
@@ -34,21 +70,22 @@ fn last(
     requires { ⌜ (count < listRoom → Listed (now t) (equalsIn (now t) (min events slots)) (now succ) (now pred) (now q) inits (min rows rowRoom) count (now between) (now readers) (now writers)) ⌝ }
     ensures { λ r. ⌜ Arranged inits events rows (now (t .entry)) (now (q .entry)) (now (succ .entry)) (now (pred .entry)) (now (scratch .entry)) (now (order .entry)) r (now (scratch .exit)) (now (order .exit)) ⌝ }
 {
-    if count < LIST {
-        let found = orders::first_listed(
-            inits,
-            events,
-            pred,
-            between,
-            readers,
-            writers,
-            count,
-            scratch,
-            order,
-        );
-        return arrange::said(found, t, succ, events);
-    }
-    arrange::arrange(inits, events, rows, t, q, succ, pred, scratch, order)
+    let found = seek(
+        inits,
+        events,
+        rows,
+        t,
+        q,
+        succ,
+        pred,
+        between,
+        readers,
+        writers,
+        count,
+        scratch,
+        order,
+    );
+    arrange::said(found, t, succ, events)
 }
 
 // The answer on the tables of accesses and rows, and the sheet's pairs; where a rule is broken, the first `need` bytes of the scratch are cleared.

@@ -1,12 +1,11 @@
--- `weigh::last` meets its contract: what the list leaves out makes no difference. Assumes nothing.
+-- `weigh::last` meets its contract: what is said of what was found. Assumes nothing.
 use Rattle.arrange.proofs.ArrangedLaws.{arranged-said}
-use Rattle.arrange.proofs.ListingLaws.{listed-answered}
 use borrow.Author.Needs.{needs}
 use Rattle.weigh.proofs.last.Statement.{statement}
 use Rattle.weigh.proofs.last.Tie as tie
 
-first-listed-requires : tie.Need-first-listed-requires
-first-listed-requires c κs = search needs
+seek-requires : tie.Need-seek-requires
+seek-requires c κs = search needs
 
 said-requires : tie.Need-said-requires
 said-requires c κs = search needs
@@ -18,30 +17,7 @@ same-length-2 : tie.Need-same-length-2
 same-length-2 c = search needs
 
 returns : tie.Need-returns
-returns c = arranged-said (listed-answered (c .before .before .before .before .before .before .before .before .before .before .before .args .rows) (c .before .before .before .before .before .before .before .before .before .before .before .pre (c .before .before .before .before .before .before .before .before .if1 .taken)) (c .before .before .before .before .before .before .before .before .if1 .taken) (c .before .before .before .before .before .first-listed .ensures)) (c .said .ensures)
-
-arrange-requires : tie.Need-arrange-requires
-arrange-requires c κs = search needs
-
-same-length-3 : tie.Need-same-length-3
-same-length-3 c = search needs
-
-same-length-4 : tie.Need-same-length-4
-same-length-4 c = search needs
-
-returns-2 : tie.Need-returns-2
-returns-2 c = search needs
+returns c = arranged-said (c .before .before .before .before .before .seek .ensures) (c .said .ensures)
 
 pub last-spec : {M : Type 1} → statement M
-last-spec =
-    tie.close
-    (tie.spec
-    first-listed-requires
-    said-requires
-    same-length
-    same-length-2
-    returns
-    arrange-requires
-    same-length-3
-    same-length-4
-    returns-2)
+last-spec = tie.close (tie.spec seek-requires said-requires same-length same-length-2 returns)

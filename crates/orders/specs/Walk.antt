@@ -1,5 +1,5 @@
--- What the private steps of a search promise: a walk through the sets. Sets are numbers here; a set is looked up in the table by its members
--- from k up, the events that are no inits. No public contract cites this file.
+-- What the steps of a search promise: a walk through the sets. Sets are numbers here; a set is looked up in the table by its members
+-- from k up, the events that are no inits. Of the contracts of this crate and of `first_order` none cites this file.
 -- Laws: proofs/TablesLaws.antt, NextLaws.antt, StandLaws.antt, SeekLaws.antt, AnswerLaws.antt. Assumes nothing.
 --     Gathered m bars writers      writers[v] is the set of the w below m that have a bar (r, w, v), for each v below m
 --     Tried P k table s j          of the events below j that can be placed after those of s, each leads to a marked set
@@ -11,6 +11,7 @@
 --     LowestReady P k s r          r is the lowest event from k on that can be placed after those of s, or the number of events if there is none
 --     Clean k m scratch            a scratch with room for the sets, and no set marked
 --     Searched P k ..              a walk with a clean scratch, cleaned again
+--     Sought ..                    the same for all inputs: what does not fit is answered false, with nothing changed
 use Prim.Native.Nat.{ℕ, _-_, _^_, _<_, _≤_}
 use mathlib.Core.Path.{_≡_}
 use mathlib.Core.Bool.{Bool, true, false}
@@ -23,6 +24,8 @@ use Rattle.placing.specs.Placing.{isSeen}
 use Rattle.orders.specs.Problem.{Problem}
 use Rattle.orders.specs.First.{FirstOf}
 use Rattle.orders.specs.Step.{Below, Ready, Runs, Dead}
+use Rattle.orders.specs.Tables.{tabled}
+use Rattle.orders.specs.Answer.{Fits}
 
 pub record Gathered (m : ℕ) (bars writers : List ℕ) : Type 0 where
   pub each : (v : ℕ) → v < m → Writers m bars v (getD writers v 0)
@@ -74,3 +77,8 @@ pub record Searched (P : Problem) (k : ℕ) (scratch : List ℕ) (r : Bool) (scr
   pub clean : scratch′ ≡ cleared (bytesFor (P .events - k)) scratch
   pub found : r ≡ true → FirstOf (Runs P (Below k)) (take (P .events - k) path′)
   pub none : r ≡ false → Dead P (Below k)
+
+pub record Sought (k m : ℕ) (before bars scratch path : List ℕ) (r : Bool) (scratch′ path′ : List ℕ) : Type 0 where
+  pub fit : Fits k m (length scratch) → Searched (tabled m before bars) k scratch r scratch′ path′
+  pub unfit : (Fits k m (length scratch) → ⊥) → (r ≡ false) × (scratch′ ≡ scratch) × (path′ ≡ path)
+  pub size : length path′ ≡ length path

@@ -35,7 +35,7 @@ fn last(
     ensures { λ r. ⌜ Arranged inits events rows (now (t .entry)) (now (q .entry)) (now (succ .entry)) (now (pred .entry)) (now (scratch .entry)) (now (order .entry)) r (now (scratch .exit)) (now (order .exit)) ⌝ }
 {
     if count < LIST {
-        let found = orders::first_listed(
+        let found = first_order::first_listed(
             inits,
             events,
             pred,

@@ -2,8 +2,8 @@
 --     listed-ready ready-listed   what can be placed by the table of a list, as the entries tell it
 --     barred-none barred-more     the events that entries stop, entry by entry
 --     Unseen, unseen-start, unseen-slot, unseen-less, unseen-next     a loop over the members of a set, the lowest first
---     unseen-hit unseen-end, marked-hit marked-end      what it ends with: by `before` alone, and with the sets that are marked
---     left-below lowest-left next-left      the lowest event that can be placed, among those that no entry stops
+--     unseen-hit unseen-end       what it ends with
+--     left-below next-left        the lowest event that can be placed, among those that no entry stops
 use mathlib.Core.Path.{_≡_, refl, sym, ap, ap₂, subst, _∙_}
 use mathlib.Core.Bool.{Bool, true, false, _&&_, _||_, not, cond, false≢true}
 use mathlib.Core.Logic.{_⊎_, inl, inr, ⊎-elim}
@@ -16,13 +16,12 @@ use lib.ListN.{getD}
 use Rattle.basis.proofs.BoolLaws.{by-bool, not-both-ways, false-of, and-parts}
 use Rattle.sets.specs.Mask.{slots, mem, Has, Within, full, remove, Lowest, Rest}
 use Rattle.sets.proofs.MaskLaws.{mem-empty, mem-or, mem-diff, mem-full, full-has, mem-lt, lt-of-members, remove-old, remove-lt}
-use Rattle.placing.specs.Placing.{isSeen}
 use Rattle.placing.proofs.UntriedLaws.{Untried, untried-lowest, untried-hit, untried-next, untried-end}
 use Rattle.orders.specs.Tables.{tabled}
 use Rattle.orders.specs.Step.{Ready}
-use Rattle.orders.specs.Walk.{LowestReady, NextReady}
+use Rattle.orders.specs.Walk.{NextReady}
 use Rattle.orders.specs.Listed.{Lists, listedBars}
-use Rattle.glides.specs.steps.Glide.{Stops, Barred, LowestAfter, NextAfter}
+use Rattle.glides.specs.steps.Glide.{Stops, Barred, NextAfter}
 use Rattle.orders.proofs.ListedLaws.{listed-elim, listed-intro}
 
 -- ---- what can be placed
@@ -131,43 +130,20 @@ module _ (m : ℕ) (before : List ℕ) (s left : ℕ) (wide : left < 2 ^ slots) 
       unseen-next f =
           record { untried = untried-next (u .untried) low some (λ q. f (q .1)); within = λ d h. u .within d (remove-old rest e d h) }
 
-  -- where no set is looked up
-  module _ {rest : ℕ} (u : Unseen m before s left (λ d. false) rest) where
-    pub unseen-end : rest ≡ 0 → LowestAfter m before s left m
+    pub unseen-end : rest ≡ 0 → NextAfter m before seen s left m
     unseen-end z =
         record {
           bound = omega arith;
           member = λ h. absurd (omega (arith, h));
           after = λ h. absurd (omega (arith, h));
-          none = λ d l h g. false≢true (tried-end u z d l h g);
-        }
-
-    pub unseen-hit : {e : ℕ} → Lowest rest e → (rest ≡ 0 → ⊥) → Within (getD before e 0) s → LowestAfter m before s left e
-    unseen-hit low some h =
-        let w = unseen-event u low some in
-        record {
-          bound = omega (arith, w);
-          member = λ l. unseen-member u low some;
-          after = λ l. h;
-          none = λ d l k g. false≢true (tried-hit u low some d l k g);
-        }
-
-  -- and where it is
-  module _ (k : ℕ) (table : List ℕ) {rest : ℕ} (u : Unseen m before s left (isSeen k table s) rest) where
-    pub marked-end : rest ≡ 0 → NextAfter k m before table s left m
-    marked-end z =
-        record {
-          bound = omega arith;
-          member = λ h. absurd (omega (arith, h));
-          after = λ h. absurd (omega (arith, h));
           unseen = λ h. absurd (omega (arith, h));
-          tried = tried-end u z;
+          tried = tried-end z;
         }
 
-    pub marked-hit : {e : ℕ} → Lowest rest e → (rest ≡ 0 → ⊥) → Within (getD before e 0) s → isSeen k table s e ≡ false → NextAfter k m before table s left e
-    marked-hit low some h f =
-        let w = unseen-event u low some in
-        record { bound = omega (arith, w); member = λ l. unseen-member u low some; after = λ l. h; unseen = λ l. f; tried = tried-hit u low some }
+    pub unseen-hit : {e : ℕ} → Lowest rest e → (rest ≡ 0 → ⊥) → Within (getD before e 0) s → seen e ≡ false → NextAfter m before seen s left e
+    unseen-hit low some h f =
+        let w = unseen-event low some in
+        record { bound = omega (arith, w); member = λ l. unseen-member low some; after = λ l. h; unseen = λ l. f; tried = tried-hit low some }
 
 -- ---- the lowest event that can be placed
 
@@ -192,15 +168,7 @@ module _ (m k : ℕ) (before between readers writers : List ℕ) (n s free c : �
       let e = q .event in
       (mem-left d ∙ ap₂ (λ (y z : Bool). y && not z) (rest .all d l (omega (arith, e, events)) (x .0)) (x .2), x .1)
 
-  pub lowest-left : {r : ℕ} → LowestAfter m before s left r → LowestReady (tabled m before (listedBars between readers writers n)) k s r
-  lowest-left {r} a =
-      record {
-        bound = a .bound;
-        ready = λ h. let p = parts r (a .member h) in listed-ready b m before events r h (rest .only r (p .0) .2) (a .after h) (p .1);
-        none = λ d l h q. let x = stays d l q in a .none d h (x .0) (x .1);
-      }
-
-  pub next-left : {x : ℕ} {table : List ℕ} {r : ℕ} → NextAfter x m before table s left r → NextReady (tabled m before (listedBars between readers writers n)) x table s k r
+  pub next-left : {seen : ℕ → Bool} {r : ℕ} → NextAfter m before seen s left r → NextReady (tabled m before (listedBars between readers writers n)) seen s k r
   next-left {r = r} a =
       record {
         bound = a .bound;

@@ -7,14 +7,16 @@
 use orders::LIST;
 use sets::SLOTS;
 ghost use mathlib.Core.Path.{_≡_};
+ghost use mathlib.Core.Bool.{false};
 ghost use Prim.Native.Nat.{_%_, _^_, _<_, _≤_, min};
 ghost use lib.ListN.{length};
 ghost use Rattle.sets.specs.Mask.{slots, Within, full};
+ghost use Rattle.placing.specs.Placing.{isSeen};
 ghost use Rattle.orders.specs.Tables.{tabled};
 ghost use Rattle.orders.specs.Listed.{listRoom, listedBars};
 ghost use Rattle.orders.specs.Answer.{Fits};
-ghost use Rattle.orders.specs.Walk.{Starting, Walked, LowestReady, NextReady, Descended, Clean, Searched, Sought};
-ghost use Rattle.glides.specs.steps.Glide.{Barred, LowestAfter, NextAfter};
+ghost use Rattle.orders.specs.Walk.{Starting, Walked, NextReady, Descended, Clean, Searched, Sought};
+ghost use Rattle.glides.specs.steps.Glide.{Barred, NextAfter};
 
 // ---- which event is next
 
@@ -47,7 +49,7 @@ fn barred(
 // The lowest event of `left` of which all that has to come before is placed; m if there is none.
 fn lowest_of(m: usize, before: &[u32; SLOTS], s: u32, left: u32) -> usize
     requires { ⌜ Within left (full m) ⌝ }
-    ensures { λ r. ⌜ LowestAfter m (now (before .entry)) s left r ⌝ }
+    ensures { λ r. ⌜ NextAfter m (now (before .entry)) (λ d. false) s left r ⌝ }
 {
     let mut rest = left;
     while rest != 0 {
@@ -72,7 +74,7 @@ fn lowest_listed(
     s: u32,
 ) -> usize
     requires { ⌜ (m ≤ slots) × (n ≤ listRoom) × (s < 2 ^ m) ⌝ }
-    ensures { λ r. ⌜ LowestReady (tabled m (now (before .entry)) (listedBars (now (between .entry)) (now (readers .entry)) (now (writers .entry)) n)) k s r ⌝ }
+    ensures { λ r. ⌜ NextReady (tabled m (now (before .entry)) (listedBars (now (between .entry)) (now (readers .entry)) (now (writers .entry)) n)) (λ d. false) s k r ⌝ }
 {
     let left = sets::rest(s, k, m) & !barred(between, readers, writers, n, s);
     lowest_of(m, before, s, left)
@@ -81,7 +83,7 @@ fn lowest_listed(
 // The lowest event of `left` of which all that has to come before is placed, and which leads to a set that is not marked; m if there is none.
 fn next_of(k: usize, m: usize, before: &[u32; SLOTS], table: &[u8], s: u32, left: u32) -> usize
     requires { ⌜ Within left (full m) ⌝ }
-    ensures { λ r. ⌜ NextAfter (k % slots) m (now (before .entry)) (now (table .entry)) s left r ⌝ }
+    ensures { λ r. ⌜ NextAfter m (now (before .entry)) (isSeen (k % slots) (now (table .entry)) s) s left r ⌝ }
 {
     let mut rest = left;
     while rest != 0 {
@@ -111,7 +113,7 @@ fn next_listed(
     from: usize,
 ) -> usize
     requires { ⌜ (m ≤ slots) × (n ≤ listRoom) × (s < 2 ^ m) ⌝ }
-    ensures { λ r. ⌜ NextReady (tabled m (now (before .entry)) (listedBars (now (between .entry)) (now (readers .entry)) (now (writers .entry)) n)) (k % slots) (now (table .entry)) s from r ⌝ }
+    ensures { λ r. ⌜ NextReady (tabled m (now (before .entry)) (listedBars (now (between .entry)) (now (readers .entry)) (now (writers .entry)) n)) (isSeen (k % slots) (now (table .entry)) s) s from r ⌝ }
 {
     let left = sets::rest(s, from, m) & !barred(between, readers, writers, n, s);
     next_of(k, m, before, table, s, left)

@@ -4,11 +4,11 @@
 --     Gathered m bars writers      writers[v] is the set of the w below m that have a bar (r, w, v), for each v below m
 --     Tried P k table s j          of the events below j that can be placed after those of s, each leads to a marked set
 --     NextIs P k table s r         r is the lowest event that can be placed after those of s and leads to a set that is not marked
---     NextReady P k table s from r     the same of the events from `from` on
+--     NextReady P seen s from r    r is the lowest event from `from` on that can be placed after those of s and is not seen, or the number of
+--                                  events if there is none; an event is seen where it leads to a marked set, or none is
 --     Starting P k table path      what a walk starts from: room for the events, the sets and the path, and no set marked
 --     Walked P k ..                the end of a walk: in the path, the first list of the others that can be placed, or that there is none
 --     Descended P k ..             the end of a walk without marks: where all are placed, the path has the first list too
---     LowestReady P k s r          r is the lowest event from k on that can be placed after those of s, or the number of events if there is none
 --     Clean k m scratch            a scratch with room for the sets, and no set marked
 --     Searched P k ..              a walk with a clean scratch, cleaned again
 --     Sought ..                    the same for all inputs: what does not fit is answered false, with nothing changed
@@ -39,12 +39,12 @@ pub record NextIs (P : Problem) (k : ℕ) (table : List ℕ) (s r : ℕ) : Type 
   pub ready : r < P .events → Ready P (Has s) r
   pub unseen : r < P .events → isSeen k table s r ≡ false
 
-pub record NextReady (P : Problem) (k : ℕ) (table : List ℕ) (s from r : ℕ) : Type 0 where
+pub record NextReady (P : Problem) (seen : ℕ → Bool) (s from r : ℕ) : Type 0 where
   pub bound : r ≤ P .events
   pub place : r < P .events → from ≤ r
   pub ready : r < P .events → Ready P (Has s) r
-  pub unseen : r < P .events → isSeen k table s r ≡ false
-  pub tried : (d : ℕ) → from ≤ d → d < r → Ready P (Has s) d → isSeen k table s d ≡ true
+  pub unseen : r < P .events → seen r ≡ false
+  pub tried : (d : ℕ) → from ≤ d → d < r → Ready P (Has s) d → seen d ≡ true
 
 pub record Starting (P : Problem) (k : ℕ) (table path : List ℕ) : Type 0 where
   pub inits : k ≤ P .events
@@ -61,11 +61,6 @@ pub record Walked (P : Problem) (k : ℕ) (table : List ℕ) (r : Bool) (table�
 
 pub record Descended (P : Problem) (k : ℕ) (r : Bool) (path′ : List ℕ) : Type 0 where
   pub found : r ≡ true → FirstOf (Runs P (Below k)) (take (P .events - k) path′)
-
-pub record LowestReady (P : Problem) (k s r : ℕ) : Type 0 where
-  pub bound : r ≤ P .events
-  pub ready : r < P .events → Ready P (Has s) r
-  pub none : (d : ℕ) → k ≤ d → d < r → Ready P (Has s) d → ⊥
 
 pub record Clean (k m : ℕ) (scratch : List ℕ) : Type 0 where
   pub inits : k ≤ m

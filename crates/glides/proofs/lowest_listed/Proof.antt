@@ -1,6 +1,6 @@
 -- `glides::lowest_listed` meets its contract: among those that no entry stops. Assumes nothing.
 use denote.Ref.{now}
-use Rattle.glides.proofs.GlideLaws.{left-below, lowest-left}
+use Rattle.glides.proofs.GlideLaws.{left-below, next-left}
 use borrow.Author.Needs.{needs}
 use Rattle.glides.proofs.lowest_listed.Statement.{statement}
 use Rattle.glides.proofs.lowest_listed.Tie as tie
@@ -19,7 +19,7 @@ lowest-of-requires c κs =
 returns : tie.Need-returns
 returns c =
     let a = c .before .before .before .args in
-    lowest-left (a .m) (a .k) (now (a .before)) (now (a .between)) (now (a .readers)) (now (a .writers)) (a .n) (a .s) (c .before .before .rest .result) (c .before .barred .result) (c .before .before .before .pre .0) (c .before .before .before .pre .2) (c .before .barred .ensures) (search needs) (c .before .before .rest .ensures) (c .lowest-of .ensures)
+    next-left (a .m) (a .k) (now (a .before)) (now (a .between)) (now (a .readers)) (now (a .writers)) (a .n) (a .s) (c .before .before .rest .result) (c .before .barred .result) (c .before .before .before .pre .0) (c .before .before .before .pre .2) (c .before .barred .ensures) (search needs) (c .before .before .rest .ensures) (c .lowest-of .ensures)
 
 pub lowest-listed-spec : {M : Type 1} → statement M
 lowest-listed-spec = tie.close (tie.spec rest-requires barred-requires lowest-of-requires returns)

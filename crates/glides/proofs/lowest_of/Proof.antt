@@ -1,5 +1,5 @@
 -- `glides::lowest_of` meets its contract: each event below those that are left has been tried. `rest` gets smaller as a number. Assumes nothing.
-use mathlib.Core.Path.{sym, ap, subst, _∙_}
+use mathlib.Core.Path.{refl, sym, ap, subst, _∙_}
 use mathlib.Core.Bool.{false}
 use native.Mathlib.Nat.{mod-eq-of-lt}
 use native.Mathlib.Omega.{arith}
@@ -42,7 +42,7 @@ subset-requires c κs = search needs
 returns : tie.Need-returns Inv-loop μ-loop
 returns c =
     let a = c .before .before .before .before .before .before .args in
-    unseen-hit (a .m) (now (a .before)) (a .s) (a .left) (c .before .before .before .before .before .before .fits .left .fits) (c .before .before .before .before .before .loop .inv) (c .before .before .before .lowest .ensures) (c .before .before .before .before .loop-test .taken) (c .before .subset .ensures .holds (c .if1 .taken))
+    unseen-hit (a .m) (now (a .before)) (a .s) (a .left) (c .before .before .before .before .before .before .fits .left .fits) (c .before .before .before .before .before .loop .inv) (c .before .before .before .lowest .ensures) (c .before .before .before .before .loop-test .taken) (c .before .subset .ensures .holds (c .if1 .taken)) refl
 
 without-requires : tie.Need-without-requires Inv-loop μ-loop
 without-requires c κs = search needs

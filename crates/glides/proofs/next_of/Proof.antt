@@ -11,7 +11,7 @@ use Rattle.sets.specs.Mask.{slots, remove}
 use Rattle.marks.specs.Table.{isMarked}
 use Rattle.placing.specs.Placing.{isSeen}
 use Rattle.placing.proofs.PlacingLaws.{looked}
-use Rattle.glides.proofs.GlideLaws.{Unseen, unseen-start, unseen-slot, unseen-less, unseen-next, marked-hit, marked-end}
+use Rattle.glides.proofs.GlideLaws.{Unseen, unseen-start, unseen-slot, unseen-less, unseen-next, unseen-hit, unseen-end}
 use borrow.Author.Needs.{needs}
 use Rattle.glides.proofs.next_of.Statement.{statement}
 use Rattle.glides.proofs.next_of.Tie as tie
@@ -54,7 +54,7 @@ returns c =
     let a = c .before .before .before .before .before .before .before .before .before .before .before .args in
     let l = unseen-slot (a .m) (now (a .before)) (a .s) (a .left) (c .before .before .before .before .before .before .before .before .before .before .before .fits .left .fits) (c .before .before .before .before .before .before .before .before .before .loop .inv) (c .before .before .before .before .before .before .before .lowest .ensures) (c .before .before .before .before .before .before .before .before .loop-test .taken) in
     let x = looked (a .s) (c .before .before .before .before .before .before .before .lowest .result) (a .k % slots) l (c .before .before .before .with .ensures) (c .before .before .above .ensures) in
-    marked-hit (a .m) (now (a .before)) (a .s) (a .left) (c .before .before .before .before .before .before .before .before .before .before .before .fits .left .fits) (a .k % slots) (now (a .table)) (c .before .before .before .before .before .before .before .before .before .loop .inv) (c .before .before .before .before .before .before .before .lowest .ensures) (c .before .before .before .before .before .before .before .before .loop-test .taken) (c .before .before .before .before .before .subset .ensures .holds (c .before .before .before .before .if1 .taken))
+    unseen-hit (a .m) (now (a .before)) (a .s) (a .left) (c .before .before .before .before .before .before .before .before .before .before .before .fits .left .fits) (c .before .before .before .before .before .before .before .before .before .loop .inv) (c .before .before .before .before .before .before .before .lowest .ensures) (c .before .before .before .before .before .before .before .before .loop-test .taken) (c .before .before .before .before .before .subset .ensures .holds (c .before .before .before .before .if1 .taken))
     (ap (isMarked (now (a .table))) (sym x) ∙ sym (c .before .marked .ensures) ∙ not-true _ (c .if2 .taken))
 
 without-requires : tie.Need-without-requires Inv-loop μ-loop
@@ -80,7 +80,7 @@ loop-again c =
     (λ v. absurd (c .before .before .subset .ensures .fails (v .left) h)) (c .before .if1 .came)))
 
 returns-2 : tie.Need-returns-2 Inv-loop μ-loop
-returns-2 c = let a = c .before .before .before .args in marked-end (a .m) (now (a .before)) (a .s) (a .left) (c .before .before .before .fits .left .fits) (a .k % slots) (now (a .table)) (c .before .loop .inv) (c .loop-test .left)
+returns-2 c = let a = c .before .before .before .args in unseen-end (a .m) (now (a .before)) (a .s) (a .left) (c .before .before .before .fits .left .fits) (c .before .loop .inv) (c .loop-test .left)
 
 pub next-of-spec : {M : Type 1} → statement M
 next-of-spec =

@@ -279,7 +279,7 @@ pub fn print() {
     }
     println!(
         "\nProved: at most 2^18 = 262,144 sets are reachable (`CountAtMost`, crates/reach/specs/Promises.antt), and a walk enters none \
-         twice, as with each step on one set less is not marked (`left-falls`, the measure of `orders::walk`, crates/orders/proofs)."
+         twice, as with each step on one set less is not marked (`left-falls`, the measure of `walks::walk`, crates/orders/proofs)."
     );
 }
 

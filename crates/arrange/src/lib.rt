@@ -31,7 +31,7 @@ pub fn by_table(
 {
     let mut bars = [0u32; BARS];
     bars::fill(t, events, succ, pred, q, rows, &mut bars);
-    orders::first(inits, events, pred, &bars, scratch, order)
+    first_order::first(inits, events, pred, &bars, scratch, order)
 }
 
 // What is said where an order was found or not: the unsettled pair, or 26.

@@ -4,7 +4,10 @@
 --     answered-unique told-unique    two conforming answers are equal, buffers too
 --     clean-cleared clean-..               a clean scratch, and what a search from it leaves
 --     searched-first searched-from         cleared, and then searched
---     searched-equal                       by an equal table of bars
+--     sought-none sought-some              what does not fit, and what is searched, by an equal table of bars
+--     sought-fits                          what is found fits
+--     told-sought, answered-some answered-none      answers from what a walk says
+--     sought-unique                        two conforming walks say the same, leave the same scratch, and find the same way
 --     answered-unfit answered-fit ..       how the code's answers are made
 use Prim.Native.Nat.{ℕ, _+_, _-_, _≤_, min}
 use mathlib.Core.Path.{_≡_, refl, sym, ap, subst, _∙_}
@@ -25,7 +28,7 @@ use Rattle.orders.specs.Step.{Below, Runs, Dead}
 use Rattle.orders.specs.Inits.{Begins}
 use Rattle.orders.specs.Tables.{tabled}
 use Rattle.orders.specs.Answer.{Fits, Possible, Ordered, Told, Answered}
-use Rattle.orders.specs.Walk.{Starting, Walked, Descended, Clean, Searched}
+use Rattle.orders.specs.Walk.{Starting, Walked, Descended, Clean, Searched, Sought}
 use Rattle.orders.proofs.FirstLaws.{first-unique}
 use Rattle.orders.proofs.TrailLaws.{runs-length}
 use Rattle.orders.proofs.InitsLaws.{from-length, from-take, whole-first, whole-none, runs-whole}
@@ -184,11 +187,6 @@ module _ (P : Problem) (k : ℕ) (scratch : List ℕ) (need : ℕ) {t : List ℕ
         none = s .none;
       }
 
--- by an equal table of bars
-pub searched-equal : (m k : ℕ) (before bars bars′ scratch : List ℕ) {s path : List ℕ} {r : Bool} → bars ≡ bars′ → Searched (tabled m before bars) k scratch r s path
-    → Searched (tabled m before bars′) k scratch r s path
-searched-equal m k before bars bars′ scratch {s} {path} {r} e a = subst (λ (b : List ℕ). Searched (tabled m before b) k scratch r s path) e a
-
 module _ {k m : ℕ} {before bars scratch order : List ℕ} where
   pub answered-unfit : (Fits k m (length scratch) × (m ≤ length order) → ⊥) → Answered k m before bars scratch order false scratch order
   answered-unfit n = record { fit = λ f l. absurd (n (f, l)); unfit = λ h. (refl, refl, refl) }
@@ -215,3 +213,38 @@ module _ {P : Problem} {k : ℕ} {scratch s path : List ℕ} {r : Bool} (a : Sea
 
   pub possible-of : Possible P k scratch r s
   possible-of = record { clean = a .clean; some = λ z. (take (P .events - k) path, a .found z .is); none = a .none }
+
+-- ---- what a walk says of all inputs
+
+module _ {k m : ℕ} {before bars scratch path : List ℕ} where
+  pub sought-none : (Fits k m (length scratch) → ⊥) → Sought k m before bars scratch path false scratch path
+  sought-none n = record { fit = λ f. absurd (n f); unfit = λ g. (refl, refl, refl); size = refl }
+
+  pub sought-some : (bars′ : List ℕ) {r : Bool} {s p : List ℕ} → Fits k m (length scratch) → bars′ ≡ bars → Searched (tabled m before bars′) k scratch r s p
+      → length p ≡ length path → Sought k m before bars scratch path r s p
+  sought-some bars′ {r} {s} {p} f e a z =
+      record { fit = λ g. subst (λ (b : List ℕ). Searched (tabled m before b) k scratch r s p) e a; unfit = λ n. absurd (n f); size = z }
+
+  module _ {r : Bool} {s p : List ℕ} (a : Sought k m before bars scratch path r s p) where
+    pub sought-fits : r ≡ true → Fits k m (length scratch)
+    sought-fits z = go (fits-or k m (length scratch))
+      where
+        go : Dec (Fits k m (length scratch)) → Fits k m (length scratch)
+        go (yes f) = f
+        go (no n) = absurd (false≢true (sym (a .unfit n .0) ∙ z))
+
+    pub told-sought : Told k m before bars scratch r s
+    told-sought = record { fit = λ f. possible-of (a .fit f); unfit = λ n. (a .unfit n .0, a .unfit n .1) }
+
+    pub answered-some : r ≡ true → (order : List ℕ) → m ≤ length order → {o : List ℕ} → o ≡ take m (from 0 k ++ p) ++ drop m order
+        → Answered k m before bars scratch order true s o
+    answered-some z order l e = let f = sought-fits z in answered-fit f l (ordered-yes (a .fit f) z (f .inits) order e)
+
+    pub answered-none : r ≡ false → {order : List ℕ} → m ≤ length order → Answered k m before bars scratch order false s order
+    answered-none z l = record { fit = λ f h. ordered-no (a .fit f) z; unfit = λ n. (refl, a .unfit (λ f. n (f, l)) .1, refl) }
+
+  pub sought-unique : (r q : Bool) {s t p u : List ℕ} → Sought k m before bars scratch path r s p → Sought k m before bars scratch path q t u
+      → (r ≡ q) × (s ≡ t) × (r ≡ true → take (m - k) p ≡ take (m - k) u)
+  sought-unique r q a b =
+      let e = told-unique r q (told-sought a) (told-sought b) in
+      (e .0, e .1, λ z. let f = sought-fits a z in first-unique (Runs (tabled m before bars) (Below k)) _ _ (a .fit f .found z) (b .fit f .found (sym (e .0) ∙ z)))

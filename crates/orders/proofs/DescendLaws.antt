@@ -3,7 +3,8 @@
 --     Going                       the way, and that each event on it was the lowest that could be placed
 --     going-start going-on going-end     the start, a step on, and what is known where all are placed
 use Prim.Native.Nat.{ℕ, _+_, _-_, _<_, _≤_}
-use mathlib.Core.Path.{_≡_, subst}
+use mathlib.Core.Path.{_≡_, refl, subst}
+use mathlib.Core.Bool.{false, false≢true}
 use mathlib.Core.List.{List}
 use native.Mathlib.Omega.{arith}
 use native.Mathlib.Decide.{decLt}
@@ -14,19 +15,21 @@ use Rattle.orders.specs.Problem.{Problem}
 use Rattle.orders.specs.First.{FirstOf}
 use Rattle.orders.specs.Step.{With, Below, Ready, Runs, Dead}
 use Rattle.orders.specs.Tables.{tabled}
-use Rattle.orders.specs.Walk.{Gathered, LowestReady}
+use Rattle.orders.specs.Walk.{Gathered, NextReady}
 use Rattle.orders.proofs.StepLaws.{Best}
 use Rattle.orders.proofs.TablesLaws.{free-ready, ready-free}
 use Rattle.orders.proofs.TrailLaws.{Bests, trail-snoc}
 use Rattle.orders.proofs.WayLaws.{Way, way-start, way-full, way-path, way-deep, way-on, way-end}
 
 pub free-lowest : (m k : ℕ) (before bars writers : List ℕ) {s r : ℕ} → m ≤ slots → Gathered m bars writers → LowestFree m before bars writers s k r
-    → LowestReady (tabled m before bars) k s r
+    → NextReady (tabled m before bars) (λ d. false) s k r
 free-lowest m k before bars writers events all n =
     record {
       bound = n .bound;
+      place = λ h. n .place h .0;
       ready = λ h. free-ready all h (n .free h);
-      none = λ d l h q. n .none d l h (let b = n .bound in omega (arith, b)) (ready-free all q);
+      unseen = λ h. refl;
+      tried = λ d l h q. absurd (n .none d l h (let b = n .bound in omega (arith, b)) (ready-free all q));
     }
 
 pub record Going (P : Problem) (k : ℕ) (path : List ℕ) (s depth : ℕ) : Type 0 where
@@ -41,13 +44,13 @@ module _ (P : Problem) (k : ℕ) (inits : k ≤ P .events) (events : P .events �
     pub going-end : s ≡ full (P .events) → FirstOf (Runs P (Below k)) (take (P .events - k) path)
     going-end h = way-end inits events (g .way) (g .bests) h
 
-    module _ {e : ℕ} (h : e < P .events) (n : LowestReady P k s e) where
+    module _ {e : ℕ} (h : e < P .events) (n : NextReady P (λ d. false) s k e) where
       best : Best P (Has s) e
       best = record { ready = n .ready h; lower = λ d l r. lower d l r (decLt d k) }
         where
           lower : (d : ℕ) → d < e → Ready P (Has s) d → Dec (d < k) → Dead P (With (Has s) d)
           lower d l r (yes q) = absurd (r .fresh (way-full inits events (g .way) d q))
-          lower d l r (no q) = absurd (n .none d (omega (arith, q)) l r)
+          lower d l r (no q) = absurd (false≢true (n .tried d (omega (arith, q)) l r))
 
       pub going-on : Going P k (set path depth e) (insert s e) (depth + 1)
       going-on =

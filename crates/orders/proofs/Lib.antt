@@ -12,8 +12,5 @@ pub mod NextLaws
 pub mod SeekLaws
 pub mod AnswerLaws
 pub mod Promises
-pub mod ForcedLaws
 pub mod SameLaws
 pub mod ListedLaws
-pub mod GlideLaws
-pub mod PressLaws

@@ -18,7 +18,7 @@ use Rattle.orders.proofs.TablesLaws.{free-ready, ready-free}
 use Rattle.orders.proofs.StandLaws.{Stand}
 
 module _ {P : Problem} {k : ℕ} {table₀ path₀ table path : List ℕ} {s depth from r : ℕ} (st : Starting P k table₀ path₀) (g : Stand P k table₀ table path s depth from)
-    (n : NextReady P (k % slots) table s from r) where
+    (n : NextReady P (isSeen (k % slots) table s) s from r) where
   slot : (d : ℕ) → from ≤ d → d < slots → isSeen (k % slots) table s d ≡ isSeen k table s d
   slot d h l = let a = g .low in ap (λ (i : ℕ). isSeen i table s d) (mod-eq-of-lt (omega (arith, a)))
 

@@ -2,7 +2,7 @@
 --     Fits k m room        k inits of m events, and `room` bytes of scratch: what a search takes
 --     Possible P k ..      whether all events can be placed one at a time, from the set of the inits on
 --     Ordered P k ..       the first order in which they can
---     Told ..              the answer of `possible`
+--     Told ..              the answer of `possible` (crate `first_order`)
 --     Answered ..          the answer of `first`
 use Prim.Native.Nat.{ℕ, _-_, _≤_}
 use mathlib.Core.Path.{_≡_}

@@ -7,7 +7,5 @@ pub mod Tables
 pub mod Answer
 pub mod Walk
 pub mod Promises
-pub mod Forced
 pub mod Spare
 pub mod Listed
-pub mod steps

@@ -1,4 +1,5 @@
--- What the crate promises beyond its functions' contracts. proofs/Promises.antt proves each in a line. Assumes nothing.
+-- What follows from the contracts of crate `first_order` (Answer.antt), and of the problem by itself. proofs/Promises.antt proves each in a line.
+-- Assumes nothing.
 --     FirstIsFirst     what `first` finds is the first of all total orders that meet the problem; where it finds none, none does
 --     FirstBegins      the first order begins with the inits, in the order of their numbers
 --     PossibleIsMeets  what `possible` says is whether some total order meets the problem

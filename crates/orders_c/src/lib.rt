@@ -15,7 +15,7 @@ pub extern "C" fn orders_first(
 ) -> bool
     ensures { λ r. ⌜ Answered inits events (now (before .entry)) (now (bars .entry)) (now (scratch .entry)) (now (order .entry)) r (now (scratch .exit)) (now (order .exit)) ⌝ }
 {
-    orders::first(inits, events, before, bars, scratch, order)
+    first_order::first(inits, events, before, bars, scratch, order)
 }
 
 #[no_mangle]
@@ -28,7 +28,7 @@ pub extern "C" fn orders_possible(
 ) -> bool
     ensures { λ r. ⌜ Told inits events (now (before .entry)) (now (bars .entry)) (now (scratch .entry)) r (now (scratch .exit)) ⌝ }
 {
-    orders::possible(inits, events, before, bars, scratch)
+    first_order::possible(inits, events, before, bars, scratch)
 }
 
 // The number of the reachable sets; all bits where it is over the limit.

@@ -36,7 +36,7 @@ fn seek(
     ensures { λ r. ⌜ Answered inits events (now (pred .entry)) (barsOf (now (t .entry)) events (now (succ .entry)) (now (pred .entry)) (now (q .entry)) rows) (now (scratch .entry)) (now (order .entry)) r (now (scratch .exit)) (now (order .exit)) ⌝ }
 {
     if count < LIST {
-        return orders::first_listed(
+        return first_order::first_listed(
             inits,
             events,
             pred,

@@ -1,0 +1,2 @@
+pub mod ForcedLaws
+pub mod PressLaws

@@ -1,3 +1,0 @@
--- Contracts of private functions: no part of what the crate promises.
-pub mod Glide
-pub mod Press

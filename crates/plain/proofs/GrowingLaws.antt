@@ -1,0 +1,172 @@
+-- The loops over events and over rows, which take fields that pass every test. Assumes nothing.
+--     growing-start, growing-reach, growing-few, growing-next, growing-end      over events
+--     covers-from, row-took                                                     a row
+--     rowing-start, rowing-asks, rowing-few, rowing-next, rowing-left, rowing-end     over rows
+use Prim.Native.Nat.{ℕ, _+_, _*_, _%_, _<_, _≤_}
+use mathlib.Core.Path.{_≡_, refl, sym, ap, _∙_, subst}
+use mathlib.Core.Bool.{Bool, true, cond, _&&_}
+use mathlib.Core.List.{List}
+use native.Mathlib.Omega.{arith}
+use borrow.Author.Tests.{leb-true}
+use lib.Dec.{eqb, leb}
+use lib.ListN.{length, getD, length-set}
+use Rattle.basis.proofs.BoolLaws.{and-both}
+use Rattle.sets.specs.Mask.{slots}
+use Rattle.format.specs.declared.Head.{Head}
+use Rattle.format.specs.declared.Shape.{Shape}
+use Rattle.format.specs.declared.Row.{Row}
+use Rattle.format.specs.Shape.{covers, reads, writes}
+use Rattle.format.specs.Limits.{maxBytes}
+use Rattle.format.specs.Field.{nextAt, restAt}
+use Rattle.format.specs.Layout.{rowBytes, rowOf}
+use Rattle.content.specs.Content.{within, rowRises}
+use Rattle.content.proofs.ContentLaws.{within-holds, within-elim}
+use Rattle.entries.specs.declared.Counts.{Counts}
+use Rattle.entries.specs.Entries.{eventsIn, rowsIn, rowNo}
+use Rattle.faults.specs.Faults.{frontBytes, PlainEvent}
+use Rattle.tables.specs.Tables.{rowRoom, puttingRow}
+use Rattle.row_data.specs.RowData.{laidShape, dataAt, passed}
+use Rattle.row_data.proofs.RowDataLaws.{row-length}
+use Rattle.lay.specs.Lay.{eventPut}
+use Rattle.spot.specs.declared.Tally.{Tally}
+use Rattle.spot.specs.declared.Spot.{Spot}
+use Rattle.spot.specs.Between.{Turn, Tallied, Stands, Carried, Shaped, behind, withRows}
+use Rattle.plain.specs.steps.Growing.{Grown, TakenEvent, PlainRow, KnownRow, JoinedRow, PlainRowPut, Growing, Rowing}
+use Rattle.spot.proofs.BetweenLaws.{counted-of}
+use Rattle.spot.proofs.TallyLaws.{tally-room}
+use Rattle.plain.proofs.PlainLaws.{plain-reach, plain-few, plain-here, plain-next, plain-tally, row-plain, row-tested, row-reach, row-room, row-next}
+use Rattle.spot.proofs.TabledLaws.{tabled-event, tabled-row, row-laid, rows-of}
+
+-- ---- over events
+
+-- from where the reader stands
+pub growing-start : (s : List ℕ) (z : Spot) (i : ℕ) (at t : List ℕ) → Stands s z at → within 1 2 (z .last) ≡ true
+    → z .x ≡ behind (z .x .head) i (z .x .events) (z .p)
+    → Growing s (z .x .head) i (z .x .events) (z .p) at t i (z .x .events) (z .t) (z .last) (z .p) at t
+growing-start s z i at t h w e =
+    record {
+      turn = subst (λ (y : Counts). Turn s (z .p) (z .last) y at) e (h .turn);
+      early = w;
+      tallied = subst (λ (y : Counts). Tallied (eventsIn s y at) (z .t)) e (h .tallied);
+      carried = λ q t₀ q₀ g. g;
+      size = refl;
+    }
+
+module _ (s : List ℕ) (h : Head) (i₀ n₀ p₀ : ℕ) (at₀ t₀ : List ℕ) (i n : ℕ) (k : Tally) (last p : ℕ) (at t : List ℕ)
+    (g : Growing s h i₀ n₀ p₀ at₀ t₀ i n k last p at t) where
+  growing-room : k .bytes < maxBytes * 2
+  growing-room = tally-room s p last (behind h i n p) at (g .turn .between) k (g .tallied)
+
+  pub growing-end : (z : Spot) → z .x ≡ behind h i₀ n₀ p₀ → Grown s z at₀ t₀ (record { p = p; last = last; x = behind h i n p; t = k }) at t
+  growing-end z e =
+      record {
+        stands = record { turn = g .turn; tallied = g .tallied };
+        carried = λ q. subst (λ (y : Counts). Carried s y at₀ t₀ q (behind h i n p) at t q) (sym e) (g .carried q);
+      }
+
+  module _ (b : Bool) (e : PlainEvent s p (behind h i n p) at b) where
+    pub growing-reach : nextAt s p ≤ maxBytes
+    growing-reach = plain-reach s p last (behind h i n p) at (g .turn) (g .early) b e
+
+    pub growing-few : (p + frontBytes ≤ length s) × (n < slots) × (length at ≡ slots) × (k .bytes < maxBytes * 2)
+    growing-few = (e .front, plain-few s p last (behind h i n p) at (g .turn) (g .early) b e .0, g .turn .between .size, growing-room)
+
+    pub growing-next : (agent : ℕ) → eqb agent 0 ≡ b → p < length s → (k′ : Tally) (at′ t′ : List ℕ) → TakenEvent s (h .edition) p n k at t k′ at′ t′
+        → Growing s h i₀ n₀ p₀ at₀ t₀ (cond (eqb agent 0) (i + 1) i) (n + 1) k′ 2 (nextAt s p) at′ t′
+    growing-next agent a l k′ at′ t′ o =
+        rw (o .place, o .table)
+        (record {
+          turn = plain-next s p last (behind h i n p) at (g .turn) (g .early) b e agent a l;
+          early = within-holds 1 2 2 (omega arith) (omega arith);
+          tallied = plain-tally s p last (behind h i n p) at (g .turn) (g .early) b e k k′ (g .tallied) (o .tally) (o .small);
+          carried = λ q y z f. tabled-event s (behind h i n p) at y t z q (g .carried q y z f) p agent (nextAt s p) refl (plain-here s p last (behind h i n p) at (g .turn) (g .early) b e);
+          size = put-length ∙ g .size;
+        })
+      where
+        put-length : length (eventPut s (h .edition) p n t) ≡ length t
+        put-length = simp length-set
+
+-- ---- a row
+
+pub covers-from : (a : Shape) (n : ℕ) → covers a n ≡ true → a .start ≤ n
+unfolding covers
+covers-from a n h = leb-true (a .start) n (and-both (leb (a .start) n) _ h .0)
+
+module _ (s : List ℕ) (p last : ℕ) (x : Counts) (at t : List ℕ) (turn : Turn s p last x at) (low : last < 4) (shaped : Shaped s x at t)
+    (r : Row) (e : r ≡ rowOf (x .head .edition) (restAt s p)) (front : p + 6 ≤ length s) (k : KnownRow s p x r) (a b : Shape)
+    (ea : a ≡ laidShape t (r .reader)) (eb : b ≡ laidShape t (r .writer)) (j : JoinedRow r a b) (u : rowRises (rowsIn s x) r ≡ true) where
+  room : x .events ≤ length at
+  room = counted-of s p last x at (turn .between) .room
+
+  plain : PlainRow s p x at
+  plain =
+      row-plain s p x at room front (k .tag) (k .long)
+      (row-tested s p x at room r e (k .reader) (k .writer)
+      (subst (λ (c : Shape). (covers c (r .address) && reads c) ≡ true) (ea ∙ shaped (r .reader) (k .reader)) (j .reads))
+      (subst (λ (c : Shape). (covers c (r .address) && writes c) ≡ true) (eb ∙ shaped (r .writer) (k .writer)) (j .writes))
+      (j .apart) u)
+
+  further : nextAt s p ≡ p + 6
+  unfolding rowBytes
+  further = let l = k .long in omega arith
+
+  this-row : r ≡ rowNo s x (x .rows)
+  this-row = e ∙ ap (λ (n : ℕ). rowOf (x .head .edition) (restAt s n)) (sym (turn .between .rows-end low))
+
+  pub row-took : (q q′ : List ℕ)
+      → q′ ≡ puttingRow q (x .rows % rowRoom) r (getD s (dataAt (x .head .edition) (getD at (r .reader) 0) a (r .address)) 0) (getD s (dataAt (x .head .edition) (getD at (r .writer) 0) b (r .address) + passed b) 0)
+      → PlainRowPut s p x at t q q′
+  row-took q q′ h =
+      record {
+        plain = plain;
+        next = further;
+        put = h ∙ ap (λ (c : Shape). puttingRow q (x .rows % rowRoom) r (getD s (dataAt (x .head .edition) (getD at (r .reader) 0) c (r .address)) 0) (getD s (dataAt (x .head .edition) (getD at (r .writer) 0) b (r .address) + passed b) 0)) ea
+            ∙ ap (λ (c : Shape). puttingRow q (x .rows % rowRoom) r (getD s (dataAt (x .head .edition) (getD at (r .reader) 0) (laidShape t (r .reader)) (r .address)) 0) (getD s (dataAt (x .head .edition) (getD at (r .writer) 0) c (r .address) + passed c) 0)) eb
+            ∙ row-laid s x at t (x .rows) q r this-row;
+      }
+
+-- ---- over rows
+
+pub rowing-start : (s : List ℕ) (z : Spot) (at t q : List ℕ) → Stands s z at → Shaped s (z .x) at t → z .last ≡ 2
+    → Rowing s (z .x) at t (z .t) (z .x .rows) (z .p) q (z .x .rows) (z .last) (z .p) q
+rowing-start s z at t q h f e =
+    record {
+      turn = subst (λ (y : Counts). Turn s (z .p) (z .last) y at) (rows-of s (z .p) (z .last) (z .x) at (h .turn .between) (omega arith)) (h .turn);
+      early = rw e (within-holds 1 3 2 (omega arith) (omega arith));
+      tallied = h .tallied;
+      shaped = f;
+      carried = λ t₀ q₀ g. g;
+      size = refl;
+    }
+
+module _ (s : List ℕ) (x : Counts) (at t : List ℕ) (k : Tally) (n₀ p₀ : ℕ) (q₀ : List ℕ) (n last p : ℕ) (q : List ℕ)
+    (g : Rowing s x at t k n₀ p₀ q₀ n last p q) where
+  pub rowing-asks : Turn s p last (withRows x n p) at × (last < 4) × Shaped s (withRows x n p) at t
+  rowing-asks = (g .turn, (let w = within-elim 1 3 last (g .early) in omega (arith, w .1)), g .shaped)
+
+  pub rowing-end : (z : Spot) → z .x ≡ withRows x n₀ p₀
+      → Stands s (record { p = p; last = last; x = withRows x n p; t = k }) at × Carried s (z .x) at t q₀ (withRows x n p) at t q
+  rowing-end z e =
+      (record { turn = g .turn; tallied = g .tallied }, subst (λ (y : Counts). Carried s y at t q₀ (withRows x n p) at t q) (sym e) (g .carried))
+
+  pub rowing-left : (q′ : List ℕ) → q′ ≡ q → (z : Spot) → z .x ≡ withRows x n₀ p₀
+      → Stands s (record { p = p; last = last; x = withRows x n p; t = k }) at × Carried s (z .x) at t q₀ (withRows x n p) at t q′
+  rowing-left q′ h z e = rw h (rowing-end z e)
+
+  module _ (q′ : List ℕ) (e : PlainRowPut s p (withRows x n p) at t q q′) where
+    pub rowing-few : n < maxBytes
+    rowing-few = row-room s p last (withRows x n p) at (g .turn) (g .early) (e .plain)
+
+    pub rowing-reach : p + 6 ≤ maxBytes
+    rowing-reach = let r = row-reach s p last (withRows x n p) at (g .turn) (g .early) (e .plain) in let f = e .next in omega arith
+
+    pub rowing-next : p < length s → Rowing s x at t k n₀ p₀ q₀ (n + 1) 3 (p + 6) q′
+    rowing-next l =
+        record {
+          turn = subst (λ (m : ℕ). Turn s m 3 (withRows x (n + 1) m) at) (e .next) (row-next s p last (withRows x n p) at (g .turn) (g .early) (e .plain) l);
+          early = within-holds 1 3 3 (omega arith) (omega arith);
+          tallied = g .tallied;
+          shaped = g .shaped;
+          carried = λ y z f. rw (e .put) (tabled-row s (withRows x n p) at y t z q (g .carried y z f) (p + 6));
+          size = ap length (e .put) ∙ row-length s (withRows x n p) at t n q ∙ g .size;
+        }

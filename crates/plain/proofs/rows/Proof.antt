@@ -1,0 +1,87 @@
+-- `plain::rows` meets its contract. The invariant: the whole answer is the answer from this place on, behind an event or a row, and the table holds the rows so far. The
+-- measure is what is left of the sheet. Assumes nothing.
+use mathlib.Core.Path.{ap, _∙_}
+use Prim.Native.Nat.{_-_}
+use denote.Ref.{now}
+use native.Mathlib.Omega.{arith}
+use borrow.Author.Tests.{not-false, not-true}
+use lib.ListN.{length}
+use Rattle.plain.specs.steps.Growing.{Rowing}
+use Rattle.spot.proofs.TabledLaws.{rows-of}
+use Rattle.plain.proofs.GrowingLaws.{rowing-start, rowing-asks, rowing-left, rowing-few, rowing-reach, rowing-next, rowing-end}
+use borrow.Author.Needs.{needs}
+use Rattle.plain.proofs.rows.Statement.{statement}
+use Rattle.plain.proofs.rows.Tie as tie
+
+abbrev Inv-loop : tie.InvT-loop
+Inv-loop s at t q₀ x k n₀ last₀ p₀ q n last p = Rowing s x at t k n₀ p₀ q₀ n last p q
+
+abbrev μ-loop : tie.MeasureT-loop
+μ-loop s at t q₀ x k n₀ last₀ p₀ q n last p = length s - p
+
+returns : tie.Need-returns Inv-loop μ-loop
+returns c = (c .before .before .before .before .before .before .pre .0, λ t₀ q₀ g. g)
+
+loop-holds : tie.Need-loop-holds Inv-loop μ-loop
+loop-holds c = rowing-start (now (c .before .before .before .before .before .before .args .s)) (c .before .before .before .before .before .before .args .spot) (now (c .before .before .before .before .before .before .args .at)) (now (c .before .before .before .before .before .before .args .t)) (now (c .before .before .before .before .before .before .args .q)) (c .before .before .before .before .before .before .pre .0) (c .before .before .before .before .before .before .pre .1) (c .if1 .left)
+
+cast-loop : tie.Need-cast-loop Inv-loop μ-loop
+cast-loop c = omega arith
+
+with-rows-requires : tie.Need-with-rows-requires Inv-loop μ-loop
+with-rows-requires c κs = search needs
+
+take-row-requires : tie.Need-take-row-requires Inv-loop μ-loop
+take-row-requires c κs = rw (c .before .with-rows .ensures) (rowing-asks (now (c .before .before .before .before .before .before .before .before .before .before .args .s)) (c .before .before .before .before .before .before .before .before .before .before .args .spot .x) (now (c .before .before .before .before .before .before .before .before .before .before .args .at)) (now (c .before .before .before .before .before .before .before .before .before .before .args .t)) (c .before .before .before .before .before .before .before .before .before .before .args .spot .t) (c .before .before .before .before .before .before .before .before .before .before .args .spot .x .rows) (c .before .before .before .before .before .before .before .before .before .before .args .spot .p) (now (c .before .before .before .before .before .before .before .before .before .before .args .q)) (c .before .before .before .loop .n) (c .before .before .before .loop .last) (c .before .before .before .loop .p) (c .before .before .before .loop .q) (c .before .before .before .loop .inv))
+
+with-rows-requires-2 : tie.Need-with-rows-requires-2 Inv-loop μ-loop
+with-rows-requires-2 c κs = search needs
+
+same-length : tie.Need-same-length Inv-loop μ-loop
+same-length c = ap length (c .before .before .before .before .take-row .ensures .left (not-true _ (c .before .if2 .taken))) ∙ c .before .before .before .before .before .before .before .before .loop .inv .size
+
+returns-2 : tie.Need-returns-2 Inv-loop μ-loop
+returns-2 c = rw (c .with-rows2 .ensures) (rowing-left (now (c .before .before .before .before .before .before .before .before .before .before .before .before .before .before .before .args .s)) (c .before .before .before .before .before .before .before .before .before .before .before .before .before .before .before .args .spot .x) (now (c .before .before .before .before .before .before .before .before .before .before .before .before .before .before .before .args .at)) (now (c .before .before .before .before .before .before .before .before .before .before .before .before .before .before .before .args .t)) (c .before .before .before .before .before .before .before .before .before .before .before .before .before .before .before .args .spot .t) (c .before .before .before .before .before .before .before .before .before .before .before .before .before .before .before .args .spot .x .rows) (c .before .before .before .before .before .before .before .before .before .before .before .before .before .before .before .args .spot .p) (now (c .before .before .before .before .before .before .before .before .before .before .before .before .before .before .before .args .q)) (c .before .before .before .before .before .before .before .before .loop .n) (c .before .before .before .before .before .before .before .before .loop .last) (c .before .before .before .before .before .before .before .before .loop .p) (c .before .before .before .before .before .before .before .before .loop .q) (c .before .before .before .before .before .before .before .before .loop .inv) _ (c .before .before .before .before .take-row .ensures .left (not-true _ (c .before .if2 .taken))) (c .before .before .before .before .before .before .before .before .before .before .before .before .before .before .before .args .spot) (rows-of (now (c .before .before .before .before .before .before .before .before .before .before .before .before .before .before .before .args .s)) (c .before .before .before .before .before .before .before .before .before .before .before .before .before .before .before .args .spot .p) (c .before .before .before .before .before .before .before .before .before .before .before .before .before .before .before .args .spot .last) (c .before .before .before .before .before .before .before .before .before .before .before .before .before .before .before .args .spot .x) (now (c .before .before .before .before .before .before .before .before .before .before .before .before .before .before .before .args .at)) (c .before .before .before .before .before .before .before .before .before .before .before .before .before .before .before .pre .0 .turn .between) (let w = c .before .before .before .before .before .before .before .before .before .if1 .left in omega arith)))
+
+add-n : tie.Need-add-n Inv-loop μ-loop
+add-n c = let f = rowing-few (now (c .before .before .before .before .before .before .before .before .before .before .before .before .before .before .args .s)) (c .before .before .before .before .before .before .before .before .before .before .before .before .before .before .args .spot .x) (now (c .before .before .before .before .before .before .before .before .before .before .before .before .before .before .args .at)) (now (c .before .before .before .before .before .before .before .before .before .before .before .before .before .before .args .t)) (c .before .before .before .before .before .before .before .before .before .before .before .before .before .before .args .spot .t) (c .before .before .before .before .before .before .before .before .before .before .before .before .before .before .args .spot .x .rows) (c .before .before .before .before .before .before .before .before .before .before .before .before .before .before .args .spot .p) (now (c .before .before .before .before .before .before .before .before .before .before .before .before .before .before .args .q)) (c .before .before .before .before .before .before .before .loop .n) (c .before .before .before .before .before .before .before .loop .last) (c .before .before .before .before .before .before .before .loop .p) (c .before .before .before .before .before .before .before .loop .q) (c .before .before .before .before .before .before .before .loop .inv) _ (rw (c .before .before .before .before .before .with-rows .ensures) at (c .before .before .before .take-row .ensures .taken (not-false _ (c .if2 .left)))) in omega arith
+
+add-p : tie.Need-add-p Inv-loop μ-loop
+add-p c = let f = rowing-reach (now (c .before .before .before .before .before .before .before .before .before .before .before .before .before .before .args .s)) (c .before .before .before .before .before .before .before .before .before .before .before .before .before .before .args .spot .x) (now (c .before .before .before .before .before .before .before .before .before .before .before .before .before .before .args .at)) (now (c .before .before .before .before .before .before .before .before .before .before .before .before .before .before .args .t)) (c .before .before .before .before .before .before .before .before .before .before .before .before .before .before .args .spot .t) (c .before .before .before .before .before .before .before .before .before .before .before .before .before .before .args .spot .x .rows) (c .before .before .before .before .before .before .before .before .before .before .before .before .before .before .args .spot .p) (now (c .before .before .before .before .before .before .before .before .before .before .before .before .before .before .args .q)) (c .before .before .before .before .before .before .before .loop .n) (c .before .before .before .before .before .before .before .loop .last) (c .before .before .before .before .before .before .before .loop .p) (c .before .before .before .before .before .before .before .loop .q) (c .before .before .before .before .before .before .before .loop .inv) _ (rw (c .before .before .before .before .before .with-rows .ensures) at (c .before .before .before .take-row .ensures .taken (not-false _ (c .if2 .left)))) in omega arith
+
+loop-less : tie.Need-loop-less Inv-loop μ-loop
+loop-less c = search needs
+
+loop-again : tie.Need-loop-again Inv-loop μ-loop
+loop-again c = rowing-next (now (c .before .before .before .before .before .before .before .before .before .before .before .before .before .before .args .s)) (c .before .before .before .before .before .before .before .before .before .before .before .before .before .before .args .spot .x) (now (c .before .before .before .before .before .before .before .before .before .before .before .before .before .before .args .at)) (now (c .before .before .before .before .before .before .before .before .before .before .before .before .before .before .args .t)) (c .before .before .before .before .before .before .before .before .before .before .before .before .before .before .args .spot .t) (c .before .before .before .before .before .before .before .before .before .before .before .before .before .before .args .spot .x .rows) (c .before .before .before .before .before .before .before .before .before .before .before .before .before .before .args .spot .p) (now (c .before .before .before .before .before .before .before .before .before .before .before .before .before .before .args .q)) (c .before .before .before .before .before .before .before .loop .n) (c .before .before .before .before .before .before .before .loop .last) (c .before .before .before .before .before .before .before .loop .p) (c .before .before .before .before .before .before .before .loop .q) (c .before .before .before .before .before .before .before .loop .inv) _ (rw (c .before .before .before .before .before .with-rows .ensures) at (c .before .before .before .take-row .ensures .taken (not-false _ (c .if2 .left)))) (c .before .before .before .before .before .before .loop-test .taken)
+
+with-rows-requires-3 : tie.Need-with-rows-requires-3 Inv-loop μ-loop
+with-rows-requires-3 c κs = search needs
+
+same-length-2 : tie.Need-same-length-2 Inv-loop μ-loop
+same-length-2 c = c .before .before .loop .inv .size
+
+returns-3 : tie.Need-returns-3 Inv-loop μ-loop
+returns-3 c = rw (c .with-rows3 .ensures) (rowing-end (now (c .before .before .before .before .before .before .before .before .before .args .s)) (c .before .before .before .before .before .before .before .before .before .args .spot .x) (now (c .before .before .before .before .before .before .before .before .before .args .at)) (now (c .before .before .before .before .before .before .before .before .before .args .t)) (c .before .before .before .before .before .before .before .before .before .args .spot .t) (c .before .before .before .before .before .before .before .before .before .args .spot .x .rows) (c .before .before .before .before .before .before .before .before .before .args .spot .p) (now (c .before .before .before .before .before .before .before .before .before .args .q)) (c .before .before .loop .n) (c .before .before .loop .last) (c .before .before .loop .p) (c .before .before .loop .q) (c .before .before .loop .inv) (c .before .before .before .before .before .before .before .before .before .args .spot) (rows-of (now (c .before .before .before .before .before .before .before .before .before .args .s)) (c .before .before .before .before .before .before .before .before .before .args .spot .p) (c .before .before .before .before .before .before .before .before .before .args .spot .last) (c .before .before .before .before .before .before .before .before .before .args .spot .x) (now (c .before .before .before .before .before .before .before .before .before .args .at)) (c .before .before .before .before .before .before .before .before .before .pre .0 .turn .between) (let w = c .before .before .before .if1 .left in omega arith)))
+
+pub rows-spec : {M : Type 1} → statement M
+rows-spec =
+    tie.close
+    (tie.spec
+    Inv-loop
+    μ-loop
+    returns
+    loop-holds
+    cast-loop
+    with-rows-requires
+    take-row-requires
+    with-rows-requires-2
+    same-length
+    returns-2
+    add-n
+    add-p
+    loop-less
+    loop-again
+    with-rows-requires-3
+    same-length-2
+    returns-3)

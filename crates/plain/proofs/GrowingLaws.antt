@@ -1,15 +1,17 @@
 -- The loops over events and over rows, which take fields that pass every test. Assumes nothing.
 --     growing-start, growing-reach, growing-few, growing-next, growing-end      over events
---     covers-from, row-took                                                     a row
---     rowing-start, rowing-asks, rowing-few, rowing-next, rowing-left, rowing-end     over rows
+--     row-took                                                                  a row
+--     rowing-start, rowing-same, rowing-took, rowing-few, rowing-next, rowing-left, rowing-end     over rows
 use Prim.Native.Nat.{ℕ, _+_, _*_, _%_, _<_, _≤_}
 use mathlib.Core.Path.{_≡_, refl, sym, ap, _∙_, subst}
-use mathlib.Core.Bool.{Bool, true, cond, _&&_}
+use mathlib.Core.Bool.{Bool, true, false, cond}
 use mathlib.Core.List.{List}
 use native.Mathlib.Omega.{arith}
-use borrow.Author.Tests.{leb-true}
+use native.Mathlib.Nat.{mod-eq-of-lt}
+use borrow.Author.Tests.{leb-true, eqb-true, ltb-true}
 use lib.Dec.{eqb, leb}
 use lib.ListN.{length, getD, length-set}
+use Rattle.basis.specs.Test.{_and_}
 use Rattle.basis.proofs.BoolLaws.{and-both}
 use Rattle.sets.specs.Mask.{slots}
 use Rattle.format.specs.declared.Head.{Head}
@@ -19,23 +21,24 @@ use Rattle.format.specs.Shape.{covers, reads, writes}
 use Rattle.format.specs.Limits.{maxBytes}
 use Rattle.format.specs.Field.{nextAt, restAt}
 use Rattle.format.specs.Layout.{rowBytes, rowOf}
-use Rattle.content.specs.Content.{within, rowRises}
+use Rattle.content.specs.Content.{within}
 use Rattle.content.proofs.ContentLaws.{within-holds, within-elim}
 use Rattle.entries.specs.declared.Counts.{Counts}
-use Rattle.entries.specs.Entries.{eventsIn, rowsIn, rowNo}
+use Rattle.entries.specs.Entries.{eventsIn, rowNo}
 use Rattle.faults.specs.Faults.{frontBytes, PlainEvent}
 use Rattle.tables.specs.Tables.{rowRoom, puttingRow}
-use Rattle.row_data.specs.RowData.{laidShape, dataAt, passed}
+use Rattle.row_data.specs.RowData.{laidShape, dataAt, passed, rowPut}
 use Rattle.row_data.proofs.RowDataLaws.{row-length}
 use Rattle.lay.specs.Lay.{eventPut}
+use Rattle.take_row.specs.Taken.{rowHere, knownTest, joinTest, riseTest, readerShape, writerShape, rowTest, rowTaken, TakenRow}
 use Rattle.spot.specs.declared.Tally.{Tally}
 use Rattle.spot.specs.declared.Spot.{Spot}
 use Rattle.spot.specs.Between.{Turn, Tallied, Stands, Carried, Shaped, behind, withRows}
-use Rattle.plain.specs.steps.Growing.{Grown, TakenEvent, PlainRow, KnownRow, JoinedRow, PlainRowPut, Growing, Rowing}
+use Rattle.plain.specs.steps.Growing.{Grown, TakenEvent, PlainRow, KnownRow, PlainRowPut, Growing, Rowing}
 use Rattle.spot.proofs.BetweenLaws.{counted-of}
 use Rattle.spot.proofs.TallyLaws.{tally-room}
-use Rattle.plain.proofs.PlainLaws.{plain-reach, plain-few, plain-here, plain-next, plain-tally, row-plain, row-tested, row-reach, row-room, row-next}
-use Rattle.spot.proofs.TabledLaws.{tabled-event, tabled-row, row-laid, rows-of}
+use Rattle.plain.proofs.PlainLaws.{plain-reach, plain-few, plain-here, plain-next, plain-tally, row-plain, rises-told, row-tested, row-reach, row-room, row-next}
+use Rattle.spot.proofs.TabledLaws.{tabled-event, tabled-row, row-laid, rows-of, few-events}
 
 -- ---- over events
 
@@ -88,42 +91,78 @@ module _ (s : List ℕ) (h : Head) (i₀ n₀ p₀ : ℕ) (at₀ t₀ : List ℕ
 
 -- ---- a row
 
-pub covers-from : (a : Shape) (n : ℕ) → covers a n ≡ true → a .start ≤ n
-unfolding covers
-covers-from a n h = leb-true (a .start) n (and-both (leb (a .start) n) _ h .0)
+-- what passes the tests of a row has no fault, and is put as the sheet's row
+module _ (s : List ℕ) (p last : ℕ) (x : Counts) (at t : List ℕ) (turn : Turn s p last x at) (low : last < 4) (shaped : Shaped s x at t) (test : rowTest s p x t ≡ true) where
+  abbrev r : Row
+  r = rowHere s p x
 
-module _ (s : List ℕ) (p last : ℕ) (x : Counts) (at t : List ℕ) (turn : Turn s p last x at) (low : last < 4) (shaped : Shaped s x at t)
-    (r : Row) (e : r ≡ rowOf (x .head .edition) (restAt s p)) (front : p + 6 ≤ length s) (k : KnownRow s p x r) (a b : Shape)
-    (ea : a ≡ laidShape t (r .reader)) (eb : b ≡ laidShape t (r .writer)) (j : JoinedRow r a b) (u : rowRises (rowsIn s x) r ≡ true) where
+  abbrev a : Shape
+  a = readerShape t r
+
+  abbrev b : Shape
+  b = writerShape t r
+
+  few : x .events ≤ slots
+  few = few-events s p last x at (turn .between)
+
   room : x .events ≤ length at
   room = counted-of s p last x at (turn .between) .room
 
+  rest : (knownTest s p x r and (joinTest r a b and riseTest s p x r)) ≡ true
+  rest = and-both (leb (p + 6) (length s)) _ test .1
+
+  front : p + 6 ≤ length s
+  front = leb-true _ _ (and-both (leb (p + 6) (length s)) _ test .0)
+
+  known : KnownRow s p x r
+  unfolding knownTest
+  known =
+      let k = and-both _ _ (and-both (knownTest s p x r) _ rest .0) in
+      let w = and-both _ _ (k .0) in
+      let h = and-both _ _ (w .0) in
+      let e = and-both _ _ (w .1) in
+      record { tag = h .0; long = eqb-true _ _ (h .1); reader = ltb-true _ _ (e .0); writer = ltb-true _ _ (e .1); room = ltb-true _ _ (k .1) }
+
+  joined : joinTest r a b ≡ true
+  joined = and-both (joinTest r a b) _ (and-both (knownTest s p x r) _ rest .1) .0
+
+  reader-slot : r .reader % slots ≡ r .reader
+  reader-slot = mod-eq-of-lt (let k = known .reader in let f = few in omega arith)
+
+  writer-slot : r .writer % slots ≡ r .writer
+  writer-slot = mod-eq-of-lt (let k = known .writer in let f = few in omega arith)
+
   plain : PlainRow s p x at
+  unfolding joinTest
   plain =
-      row-plain s p x at room front (k .tag) (k .long)
-      (row-tested s p x at room r e (k .reader) (k .writer)
-      (subst (λ (c : Shape). (covers c (r .address) && reads c) ≡ true) (ea ∙ shaped (r .reader) (k .reader)) (j .reads))
-      (subst (λ (c : Shape). (covers c (r .address) && writes c) ≡ true) (eb ∙ shaped (r .writer) (k .writer)) (j .writes))
-      (j .apart) u)
+      let j = and-both (covers a (r .address) and reads a) _ joined in
+      let w = and-both _ _ (j .1) in
+      row-plain s p x at room front (known .tag) (known .long)
+      (row-tested s p x at room r refl (known .reader) (known .writer)
+      (subst (λ (c : Shape). (covers c (r .address) and reads c) ≡ true) (ap (laidShape t) reader-slot ∙ shaped (r .reader) (known .reader)) (j .0))
+      (subst (λ (c : Shape). (covers c (r .address) and writes c) ≡ true) (ap (laidShape t) writer-slot ∙ shaped (r .writer) (known .writer)) (w .0))
+      (w .1)
+      (sym (rises-told s p x (turn .between .rows-end low) r) ∙ and-both (joinTest r a b) _ (and-both (knownTest s p x r) _ rest .1) .1))
 
   further : nextAt s p ≡ p + 6
   unfolding rowBytes
-  further = let l = k .long in omega arith
+  further = let l = known .long in omega arith
 
   this-row : r ≡ rowNo s x (x .rows)
-  this-row = e ∙ ap (λ (n : ℕ). rowOf (x .head .edition) (restAt s n)) (sym (turn .between .rows-end low))
+  this-row = ap (λ (n : ℕ). rowOf (x .head .edition) (restAt s n)) (sym (turn .between .rows-end low))
 
-  pub row-took : (q q′ : List ℕ)
-      → q′ ≡ puttingRow q (x .rows % rowRoom) r (getD s (dataAt (x .head .edition) (getD at (r .reader) 0) a (r .address)) 0) (getD s (dataAt (x .head .edition) (getD at (r .writer) 0) b (r .address) + passed b) 0)
-      → PlainRowPut s p x at t q q′
-  row-took q q′ h =
-      record {
-        plain = plain;
-        next = further;
-        put = h ∙ ap (λ (c : Shape). puttingRow q (x .rows % rowRoom) r (getD s (dataAt (x .head .edition) (getD at (r .reader) 0) c (r .address)) 0) (getD s (dataAt (x .head .edition) (getD at (r .writer) 0) b (r .address) + passed b) 0)) ea
-            ∙ ap (λ (c : Shape). puttingRow q (x .rows % rowRoom) r (getD s (dataAt (x .head .edition) (getD at (r .reader) 0) (laidShape t (r .reader)) (r .address)) 0) (getD s (dataAt (x .head .edition) (getD at (r .writer) 0) c (r .address) + passed c) 0)) eb
-            ∙ row-laid s x at t (x .rows) q r this-row;
-      }
+  taken-same : (q : List ℕ) → rowTaken s p x at t q ≡ rowPut s x at t (x .rows) q
+  taken-same q =
+      ap
+      (λ (e : ℕ). puttingRow q (x .rows % rowRoom) r (getD s (dataAt (x .head .edition) (getD at e 0) (laidShape t e) (r .address)) 0) (getD s (dataAt (x .head .edition) (getD at (r .writer % slots) 0) b (r .address) + passed b) 0))
+      reader-slot
+      ∙ ap
+      (λ (w : ℕ). puttingRow q (x .rows % rowRoom) r (getD s (dataAt (x .head .edition) (getD at (r .reader) 0) (laidShape t (r .reader)) (r .address)) 0) (getD s (dataAt (x .head .edition) (getD at w 0) (laidShape t w) (r .address) + passed (laidShape t w)) 0))
+      writer-slot
+      ∙ row-laid s x at t (x .rows) q r this-row
+
+  pub row-took : (q q′ : List ℕ) → q′ ≡ rowTaken s p x at t q → PlainRowPut s p x at t q q′
+  row-took q q′ h = record { plain = plain; next = further; put = h ∙ taken-same q }
 
 -- ---- over rows
 
@@ -141,8 +180,14 @@ rowing-start s z at t q h f e =
 
 module _ (s : List ℕ) (x : Counts) (at t : List ℕ) (k : Tally) (n₀ p₀ : ℕ) (q₀ : List ℕ) (n last p : ℕ) (q : List ℕ)
     (g : Rowing s x at t k n₀ p₀ q₀ n last p q) where
-  pub rowing-asks : Turn s p last (withRows x n p) at × (last < 4) × Shaped s (withRows x n p) at t
-  rowing-asks = (g .turn, (let w = within-elim 1 3 last (g .early) in omega (arith, w .1)), g .shaped)
+  -- a field that is left, and one that is taken
+  pub rowing-same : (y : Bool) (q′ : List ℕ) → TakenRow s p (withRows x n p) at t q y q′ → y ≡ false → q′ ≡ q
+  rowing-same y q′ k e = k .table ∙ ap (λ (c : Bool). cond c (rowTaken s p (withRows x n p) at t q) q) e
+
+  pub rowing-took : (y : Bool) (q′ : List ℕ) → TakenRow s p (withRows x n p) at t q y q′ → y ≡ true → PlainRowPut s p (withRows x n p) at t q q′
+  rowing-took y q′ k e =
+      row-took s p last (withRows x n p) at t (g .turn) (let w = within-elim 1 3 last (g .early) in omega (arith, w .1)) (g .shaped) (sym (k .is) ∙ e) q q′
+      (k .table ∙ ap (λ (c : Bool). cond c (rowTaken s p (withRows x n p) at t q) q) e)
 
   pub rowing-end : (z : Spot) → z .x ≡ withRows x n₀ p₀
       → Stands s (record { p = p; last = last; x = withRows x n p; t = k }) at × Carried s (z .x) at t q₀ (withRows x n p) at t q

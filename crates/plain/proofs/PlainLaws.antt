@@ -2,19 +2,18 @@
 --     head-reach, head-next                             the head
 --     plain-reach, plain-few, plain-here, plain-next    an event; the tally with it: plain-tally
 --     row-reach, row-room, row-next                     a row
---     place-there                                       an event's place is among the places
---     rises-first, rises-then                           a row above the one before
+--     rises-told                                        a row above the one before
 --     row-tested, row-plain                                       what passes the tests of a row
 use Prim.Native.Nat.{ℕ, _+_, _-_, _*_, _≤_, _<_}
 use mathlib.Core.Path.{_≡_, refl, sym, ap, _∙_, subst}
-use mathlib.Core.Bool.{Bool, true, cond, not, _&&_}
+use mathlib.Core.Bool.{Bool, true, cond}
 use mathlib.Core.List.{List}
 use native.Mathlib.Omega.{arith}
-use borrow.Author.Tests.{eqb-true, eq-eqb, ne-eqb, le-ltb}
+use borrow.Author.Tests.{eqb-true, eqb-false, eq-eqb, ne-eqb, le-ltb}
 use lib.Dec.{eqb}
-use lib.ListN.{length, getD, take, drop, set, length-take, length-drop}
-use Rattle.basis.specs.Test.{_or_}
-use Rattle.basis.proofs.BoolLaws.{both-hold, amp-and, not-non}
+use lib.ListN.{length, getD, drop, set, length-take, length-drop}
+use Rattle.basis.specs.Test.{_and_, _or_, non}
+use Rattle.basis.proofs.BoolLaws.{by-bool, both-hold}
 use Rattle.format.specs.declared.Row.{Row}
 use Rattle.format.specs.Shape.{covers, reads, writes}
 use Rattle.format.specs.Execution.{rowBelow}
@@ -30,9 +29,11 @@ use Rattle.parse.proofs.FormedLaws.{passed, passed-non}
 use Rattle.entries.specs.declared.Counts.{Counts}
 use Rattle.entries.specs.Entries.{eventAt, eventsIn, rowsIn}
 use Rattle.entries.proofs.EntriesLaws.{readsAt-at, writesAt-at, rows-count, row-at}
+use Rattle.take_row.specs.Taken.{riseTest}
+use Rattle.take_row.proofs.TakenLaws.{rise-first, rise-then}
 use Rattle.faults.specs.Faults.{PlainHead, PlainEvent}
 use Rattle.spot.specs.declared.Tally.{Tally}
-use Rattle.spot.specs.Between.{blankCounts, blankPlaces, Between, Ready, Turn, tallyWith, Tallied, withHead, withEvent, withRow}
+use Rattle.spot.specs.Between.{blankCounts, blankPlaces, Ready, Turn, tallyWith, Tallied, withHead, withEvent, withRow}
 use Rattle.plain.specs.steps.Growing.{PlainRow}
 use Rattle.spot.proofs.TallyLaws.{tally-next}
 use Rattle.spot.proofs.BetweenLaws.{ready-next, head-taken, event-few, event-here, event-taken, row-few, row-taken, turn-start, turn-ready, turn-reach, turn-next}
@@ -114,26 +115,26 @@ module _ (s : List ℕ) (p last : ℕ) (x : Counts) (at : List ℕ) (t : Turn s 
       subst (λ (tag : ℕ). Turn s (nextAt s p) tag (withRow x (nextAt s p)) at) (e .tag)
       (turn-next s p last x at t _ _ _ h refl (e .clean last w) (row-taken s p last x at row-ready (e .tag)))
 
-module _ (s : List ℕ) (p last : ℕ) (x : Counts) (at : List ℕ) (b : Between s p last x at) (i : ℕ) (h : i < x .events) where
-  pub place-there : i < length at
-  place-there = let z = b .size in let f = b .few-inits in let o = b .few-others in omega arith
-
 -- the row before
-module _ (s : List ℕ) (p : ℕ) (x : Counts) (e : x .«rows_at» + x .rows * rowGap (x .head .edition) ≡ p) where
-  pub rises-first : (r : Row) → x .rows ≡ 0 → true ≡ rowRises (rowsIn s x) r
-  unfolding rowRises _or_
-  rises-first r z = simp (rows-count, z)
+module _ (s : List ℕ) (p : ℕ) (x : Counts) (e : x .«rows_at» + x .rows * rowGap (x .head .edition) ≡ p) (r : Row) where
+  rises-first : x .rows ≡ 0 → riseTest s p x r ≡ rowRises (rowsIn s x) r
+  unfolding rowRises _or_ rowBytes
+  rises-first z = sym (rise-first s p x r (omega arith)) ∙ simp (rows-count, z)
 
   back : (x .rows ≡ 0 → ⊥) → x .«rows_at» + (x .rows - 1) * rowGap (x .head .edition) + 3 ≡ p - 3
   unfolding rowBytes
   back n = omega arith
 
-  pub rises-then : (r : Row) (n : ℕ) → (x .rows ≡ 0 → ⊥) → 3 ≤ n → rowBelow (rowOf (x .head .edition) (take n (drop (p - 3) s))) r ≡ rowRises (rowsIn s x) r
+  rises-then : (x .rows ≡ 0 → ⊥) → riseTest s p x r ≡ rowRises (rowsIn s x) r
   unfolding rowRises rowBytes _or_
-  rises-then r n z l =
+  rises-then z =
       let j : x .rows - 1 < x .rows = omega arith in
-      simp (rows-count, ne-eqb _ _ z, row-at s (x .head .edition) (x .«rows_at») (x .rows) (x .rows - 1) j, row-front (x .head .edition) (drop (p - 3) s) n l)
+      sym (rise-then s p x r (omega arith))
+      ∙ simp (rows-count, ne-eqb _ _ z, row-at s (x .head .edition) (x .«rows_at») (x .rows) (x .rows - 1) j)
       (ap (λ (k : ℕ). rowBelow (rowOf (x .head .edition) (drop k s)) r) (sym (back z)))
+
+  pub rises-told : riseTest s p x r ≡ rowRises (rowsIn s x) r
+  rises-told = by-bool (eqb (x .rows) 0) (λ z. rises-first (eqb-true _ _ z)) (λ z. rises-then (eqb-false _ _ z))
 
 -- what passes the tests of a row
 module _ (s : List ℕ) (p : ℕ) (x : Counts) (at : List ℕ) (room : x .events ≤ length at) where
@@ -152,14 +153,14 @@ module _ (s : List ℕ) (p : ℕ) (x : Counts) (at : List ℕ) (room : x .events
   long h l = simp (length-take, length-drop) (omega arith)
 
   row-fits : r .reader < x .events → r .writer < x .events
-      → (covers (shapeOf ed (restAt s (getD at (r .reader) 0))) (r .address) && reads (shapeOf ed (restAt s (getD at (r .reader) 0)))) ≡ true
-      → (covers (shapeOf ed (restAt s (getD at (r .writer) 0))) (r .address) && writes (shapeOf ed (restAt s (getD at (r .writer) 0)))) ≡ true
-      → not (eqb (r .reader) (r .writer)) ≡ true → rowRises (rowsIn s x) r ≡ true → rowFits (eventsIn s x at) (rowsIn s x) r ≡ true
+      → (covers (shapeOf ed (restAt s (getD at (r .reader) 0))) (r .address) and reads (shapeOf ed (restAt s (getD at (r .reader) 0)))) ≡ true
+      → (covers (shapeOf ed (restAt s (getD at (r .writer) 0))) (r .address) and writes (shapeOf ed (restAt s (getD at (r .writer) 0)))) ≡ true
+      → non (eqb (r .reader) (r .writer)) ≡ true → rowRises (rowsIn s x) r ≡ true → rowFits (eventsIn s x at) (rowsIn s x) r ≡ true
   unfolding rowFits joins
   row-fits e w a b d u =
       both-hold _ _
-      (both-hold _ _ (readsAt-at s ed (x .events) at (r .reader) e room (r .address) ∙ sym (amp-and _ _) ∙ a)
-      (both-hold _ _ (writesAt-at s ed (x .events) at (r .writer) w room (r .address) ∙ sym (amp-and _ _) ∙ b) (sym (not-non _) ∙ d)))
+      (both-hold _ _ (readsAt-at s ed (x .events) at (r .reader) e room (r .address) ∙ a)
+      (both-hold _ _ (writesAt-at s ed (x .events) at (r .writer) w room (r .address) ∙ b) d))
       u
 
   pub row-plain : p + 6 ≤ length s → eqb (tagAt s p) 3 ≡ true → lengthAt s p ≡ rowBytes ed → rowFits (eventsIn s x at) (rowsIn s x) r ≡ true
@@ -174,13 +175,13 @@ module _ (s : List ℕ) (p : ℕ) (x : Counts) (at : List ℕ) (room : x .events
 
   -- by a row that is this one
   pub row-tested : (q : Row) → q ≡ r → q .reader < x .events → q .writer < x .events
-      → (covers (shapeOf ed (restAt s (getD at (q .reader) 0))) (q .address) && reads (shapeOf ed (restAt s (getD at (q .reader) 0)))) ≡ true
-      → (covers (shapeOf ed (restAt s (getD at (q .writer) 0))) (q .address) && writes (shapeOf ed (restAt s (getD at (q .writer) 0)))) ≡ true
-      → not (eqb (q .reader) (q .writer)) ≡ true → rowRises (rowsIn s x) q ≡ true → rowFits (eventsIn s x at) (rowsIn s x) r ≡ true
+      → (covers (shapeOf ed (restAt s (getD at (q .reader) 0))) (q .address) and reads (shapeOf ed (restAt s (getD at (q .reader) 0)))) ≡ true
+      → (covers (shapeOf ed (restAt s (getD at (q .writer) 0))) (q .address) and writes (shapeOf ed (restAt s (getD at (q .writer) 0)))) ≡ true
+      → non (eqb (q .reader) (q .writer)) ≡ true → rowRises (rowsIn s x) q ≡ true → rowFits (eventsIn s x at) (rowsIn s x) r ≡ true
   row-tested q e =
       subst
       (λ (q : Row). q .reader < x .events → q .writer < x .events
-      → (covers (shapeOf ed (restAt s (getD at (q .reader) 0))) (q .address) && reads (shapeOf ed (restAt s (getD at (q .reader) 0)))) ≡ true
-      → (covers (shapeOf ed (restAt s (getD at (q .writer) 0))) (q .address) && writes (shapeOf ed (restAt s (getD at (q .writer) 0)))) ≡ true
-      → not (eqb (q .reader) (q .writer)) ≡ true → rowRises (rowsIn s x) q ≡ true → rowFits (eventsIn s x at) (rowsIn s x) r ≡ true)
+      → (covers (shapeOf ed (restAt s (getD at (q .reader) 0))) (q .address) and reads (shapeOf ed (restAt s (getD at (q .reader) 0)))) ≡ true
+      → (covers (shapeOf ed (restAt s (getD at (q .writer) 0))) (q .address) and writes (shapeOf ed (restAt s (getD at (q .writer) 0)))) ≡ true
+      → non (eqb (q .reader) (q .writer)) ≡ true → rowRises (rowsIn s x) q ≡ true → rowFits (eventsIn s x at) (rowsIn s x) r ≡ true)
       (sym e) row-fits

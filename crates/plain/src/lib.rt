@@ -2,7 +2,6 @@
 // asks every test of it.
 use entries::Counts;
 use format::MAX_BYTES;
-use format::Row;
 use format::Shape;
 use format::field;
 use format::field::FIELD_BYTES;
@@ -10,24 +9,21 @@ use sets::SLOTS;
 use spot::Spot;
 use spot::Tally;
 use tables::COLUMNS;
-use tables::ROWS;
 ghost use mathlib.Core.Path.{_≡_};
 ghost use mathlib.Core.Bool.{true};
 ghost use mathlib.Core.List.{List};
 ghost use Prim.Native.Nat.{ℕ, _+_, _*_, _≤_, _<_};
-ghost use lib.ListN.{length, getD};
+ghost use lib.ListN.{length};
 ghost use Rattle.sets.specs.Mask.{slots};
 ghost use Rattle.format.specs.Limits.{maxBytes};
-ghost use Rattle.format.specs.Shape.{reads, tearOf};
+ghost use Rattle.format.specs.Shape.{tearOf};
 ghost use Rattle.format.specs.Field.{restAt};
-ghost use Rattle.format.specs.Layout.{shapeOf, rowGap};
-ghost use Rattle.content.specs.Content.{rowRises};
-ghost use Rattle.entries.specs.Entries.{eventsIn, rowsIn};
-ghost use Rattle.row_data.specs.RowData.{dataAt, passed};
+ghost use Rattle.format.specs.Layout.{shapeOf};
+ghost use Rattle.entries.specs.Entries.{eventsIn};
 ghost use Rattle.faults.specs.Faults.{frontBytes};
-ghost use Rattle.spot.specs.Between.{blankPlaces, Turn, Stands, Tabled, Carried, Shaped, withRows};
+ghost use Rattle.spot.specs.Between.{blankPlaces, Stands, Tabled, Carried, Shaped, withRows};
 ghost use Rattle.plain.specs.Fields.{PlainFields};
-ghost use Rattle.plain.specs.steps.Growing.{startSpot, Grown, TakenEvent, Fitting, Lined, FirstTold, KnownRow, JoinedRow, TakenRow};
+ghost use Rattle.plain.specs.steps.Growing.{startSpot, Grown, TakenEvent, Fitting, Lined, FirstTold};
 
 fn clear(at: &mut [u16])
     requires { ⌜ length (now at) ≡ slots ⌝ }
@@ -268,105 +264,6 @@ fn with_rows(x: Counts, n: u16, p: u16) -> Counts
     }
 }
 
-// Is the row r, of the field at p, above the one before it?
-fn rises(s: &[u8], p: u16, x: Counts, r: Row) -> bool
-    requires { ⌜ (p ≤ length (now s)) × (x .«rows_at» + x .rows * rowGap (x .head .edition) ≡ p) ⌝ }
-    ensures { λ y. ⌜ y ≡ rowRises (rowsIn (now (s .entry)) x) r ⌝ }
-{
-    if x.rows == 0 {
-        return true;
-    }
-    let end = p as usize;
-    let start = end - 3;
-    limits::row_below(layout::row_of(x.head.edition, &s[start..end]), r)
-}
-
-// The byte that the event at p saw at the flat byte n, where its access a covers it.
-fn seen_at(s: &[u8], edition: u8, p: u16, a: Shape, n: u8) -> u8
-    requires { ⌜ a .start ≤ n ⌝ }
-    ensures { λ r. ⌜ r ≡ getD (now (s .entry)) (dataAt edition p a n) 0 ⌝ }
-{
-    let front = FIELD_BYTES + sizes::event_bytes(edition) as usize;
-    field::byte(s, p as usize + front + (n - a.start) as usize)
-}
-
-// How much of its data stands before what an access wrote; without a jump, as above.
-fn passed(a: Shape) -> u16
-    ensures { λ r. ⌜ (r ≡ passed a) × (r ≤ 255) ⌝ }
-{
-    (a.kind == 3) as u16 * a.width as u16
-}
-
-// The byte that it wrote there.
-fn wrote_at(s: &[u8], edition: u8, p: u16, a: Shape, n: u8) -> u8
-    requires { ⌜ a .start ≤ n ⌝ }
-    ensures { λ r. ⌜ r ≡ getD (now (s .entry)) (dataAt edition p a n + passed a) 0 ⌝ }
-{
-    let front = FIELD_BYTES + sizes::event_bytes(edition) as usize;
-    field::byte(
-        s,
-        p as usize + front + (n - a.start) as usize + passed(a) as usize,
-    )
-}
-
-// Is the field at p a row by its tag and its length, between events that stand before it, and is there a place for it in the table?
-fn known(s: &[u8], p: u16, x: Counts, r: Row) -> bool
-    ensures { λ y. ⌜ (y ≡ true → KnownRow (now (s .entry)) p x r) ⌝ }
-{
-    let here = (field::byte(s, p as usize) == 3)
-        & (field::length_at(s, p as u32) == sizes::row_bytes(x.head.edition) as u16);
-    let held = (r.reader < x.events) & (r.writer < x.events);
-    (here & held) & ((x.rows as usize) < ROWS)
-}
-
-// Does the access a of its reader read the row's byte, and the access b of its writer, another event, write it?
-fn joins(r: Row, a: Shape, b: Shape) -> bool
-    ensures { λ y. ⌜ (y ≡ true → JoinedRow r a b) ⌝ }
-{
-    let reads = ranges::covers(a, r.address) & access::reads(a);
-    let writes = ranges::covers(b, r.address) & access::writes(b);
-    reads & (writes & !(r.reader == r.writer))
-}
-
-// Takes the field at p, behind an event or a row, where it is a row without a fault and has a place in the table. The accesses of its events stand in
-// theirs.
-fn take_row(
-    s: &[u8],
-    p: u16,
-    last: u8,
-    x: Counts,
-    at: &[u16],
-    t: &[u8; COLUMNS],
-    q: &mut [u8],
-) -> bool
-    requires { ⌜ Turn (now s) p last x (now at) × (last < 4) × Shaped (now s) x (now at) (now t) ⌝ }
-    ensures { λ r. ⌜ TakenRow (now (s .entry)) p x (now (at .entry)) (now (t .entry)) (now (q .entry)) r (now (q .exit)) ⌝ }
-{
-    let edition = x.head.edition;
-    let start = p as usize + FIELD_BYTES;
-    let end = start + 3;
-    if s.len() < end {
-        return false;
-    }
-    let r = layout::row_of(edition, &s[start..end]);
-    let known = known(s, p, x, r);
-    if !known {
-        return false;
-    }
-    let e = r.reader as usize;
-    let w = r.writer as usize;
-    let a = tables::shape(t, 2 * e);
-    let b = tables::shape(t, 2 * w);
-    let plain = joins(r, a, b) & rises(s, p, x, r);
-    if !plain {
-        return false;
-    }
-    let seen = seen_at(s, edition, at[e], a, r.address);
-    let wrote = wrote_at(s, edition, at[w], b, r.address);
-    store::put_row(q, x.rows as usize, r, seen, wrote);
-    true
-}
-
 fn rows(s: &[u8], spot: Spot, at: &[u16], t: &[u8; COLUMNS], q: &mut [u8]) -> Spot
     requires { ⌜ Stands (now s) spot (now at) × Shaped (now s) (spot .x) (now at) (now t) ⌝ }
     ensures { λ r. ⌜ Stands (now (s .entry)) r (now (at .entry)) × Carried (now (s .entry)) (spot .x) (now (at .entry)) (now (t .entry)) (now (q .entry)) (r .x) (now (at .entry)) (now (t .entry)) (now (q .exit)) ⌝ }
@@ -380,7 +277,7 @@ fn rows(s: &[u8], spot: Spot, at: &[u16], t: &[u8; COLUMNS], q: &mut [u8]) -> Sp
         return spot;
     }
     while (p as usize) < s.len() {
-        let plain = take_row(s, p, last, with_rows(x, n, p), at, t, q);
+        let plain = take_row::take(s, p, with_rows(x, n, p), at, t, q);
         if !plain {
             return Spot {
                 p: p,

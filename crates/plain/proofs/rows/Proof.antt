@@ -8,7 +8,7 @@ use borrow.Author.Tests.{not-false, not-true}
 use lib.ListN.{length}
 use Rattle.plain.specs.steps.Growing.{Rowing}
 use Rattle.spot.proofs.TabledLaws.{rows-of}
-use Rattle.plain.proofs.GrowingLaws.{rowing-start, rowing-asks, rowing-left, rowing-few, rowing-reach, rowing-next, rowing-end}
+use Rattle.plain.proofs.GrowingLaws.{rowing-start, rowing-same, rowing-took, rowing-left, rowing-few, rowing-reach, rowing-next, rowing-end}
 use borrow.Author.Needs.{needs}
 use Rattle.plain.proofs.rows.Statement.{statement}
 use Rattle.plain.proofs.rows.Tie as tie
@@ -31,29 +31,29 @@ cast-loop c = omega arith
 with-rows-requires : tie.Need-with-rows-requires Inv-loop μ-loop
 with-rows-requires c κs = search needs
 
-take-row-requires : tie.Need-take-row-requires Inv-loop μ-loop
-take-row-requires c κs = rw (c .before .with-rows .ensures) (rowing-asks (now (c .before .before .before .before .before .before .before .before .before .before .args .s)) (c .before .before .before .before .before .before .before .before .before .before .args .spot .x) (now (c .before .before .before .before .before .before .before .before .before .before .args .at)) (now (c .before .before .before .before .before .before .before .before .before .before .args .t)) (c .before .before .before .before .before .before .before .before .before .before .args .spot .t) (c .before .before .before .before .before .before .before .before .before .before .args .spot .x .rows) (c .before .before .before .before .before .before .before .before .before .before .args .spot .p) (now (c .before .before .before .before .before .before .before .before .before .before .args .q)) (c .before .before .before .loop .n) (c .before .before .before .loop .last) (c .before .before .before .loop .p) (c .before .before .before .loop .q) (c .before .before .before .loop .inv))
+take-requires : tie.Need-take-requires Inv-loop μ-loop
+take-requires c κs = search needs
 
 with-rows-requires-2 : tie.Need-with-rows-requires-2 Inv-loop μ-loop
 with-rows-requires-2 c κs = search needs
 
 same-length : tie.Need-same-length Inv-loop μ-loop
-same-length c = ap length (c .before .before .before .before .take-row .ensures .left (not-true _ (c .before .if2 .taken))) ∙ c .before .before .before .before .before .before .before .before .loop .inv .size
+same-length c = ap length (rowing-same (now (c .before .before .before .before .before .before .before .before .before .before .before .before .before .before .before .args .s)) (c .before .before .before .before .before .before .before .before .before .before .before .before .before .before .before .args .spot .x) (now (c .before .before .before .before .before .before .before .before .before .before .before .before .before .before .before .args .at)) (now (c .before .before .before .before .before .before .before .before .before .before .before .before .before .before .before .args .t)) (c .before .before .before .before .before .before .before .before .before .before .before .before .before .before .before .args .spot .t) (c .before .before .before .before .before .before .before .before .before .before .before .before .before .before .before .args .spot .x .rows) (c .before .before .before .before .before .before .before .before .before .before .before .before .before .before .before .args .spot .p) (now (c .before .before .before .before .before .before .before .before .before .before .before .before .before .before .before .args .q)) (c .before .before .before .before .before .before .before .before .loop .n) (c .before .before .before .before .before .before .before .before .loop .last) (c .before .before .before .before .before .before .before .before .loop .p) (c .before .before .before .before .before .before .before .before .loop .q) (c .before .before .before .before .before .before .before .before .loop .inv) _ _ (rw (c .before .before .before .before .before .before .with-rows .ensures) at (c .before .before .before .before .take .ensures)) (not-true _ (c .before .if2 .taken))) ∙ c .before .before .before .before .before .before .before .before .loop .inv .size
 
 returns-2 : tie.Need-returns-2 Inv-loop μ-loop
-returns-2 c = rw (c .with-rows2 .ensures) (rowing-left (now (c .before .before .before .before .before .before .before .before .before .before .before .before .before .before .before .args .s)) (c .before .before .before .before .before .before .before .before .before .before .before .before .before .before .before .args .spot .x) (now (c .before .before .before .before .before .before .before .before .before .before .before .before .before .before .before .args .at)) (now (c .before .before .before .before .before .before .before .before .before .before .before .before .before .before .before .args .t)) (c .before .before .before .before .before .before .before .before .before .before .before .before .before .before .before .args .spot .t) (c .before .before .before .before .before .before .before .before .before .before .before .before .before .before .before .args .spot .x .rows) (c .before .before .before .before .before .before .before .before .before .before .before .before .before .before .before .args .spot .p) (now (c .before .before .before .before .before .before .before .before .before .before .before .before .before .before .before .args .q)) (c .before .before .before .before .before .before .before .before .loop .n) (c .before .before .before .before .before .before .before .before .loop .last) (c .before .before .before .before .before .before .before .before .loop .p) (c .before .before .before .before .before .before .before .before .loop .q) (c .before .before .before .before .before .before .before .before .loop .inv) _ (c .before .before .before .before .take-row .ensures .left (not-true _ (c .before .if2 .taken))) (c .before .before .before .before .before .before .before .before .before .before .before .before .before .before .before .args .spot) (rows-of (now (c .before .before .before .before .before .before .before .before .before .before .before .before .before .before .before .args .s)) (c .before .before .before .before .before .before .before .before .before .before .before .before .before .before .before .args .spot .p) (c .before .before .before .before .before .before .before .before .before .before .before .before .before .before .before .args .spot .last) (c .before .before .before .before .before .before .before .before .before .before .before .before .before .before .before .args .spot .x) (now (c .before .before .before .before .before .before .before .before .before .before .before .before .before .before .before .args .at)) (c .before .before .before .before .before .before .before .before .before .before .before .before .before .before .before .pre .0 .turn .between) (let w = c .before .before .before .before .before .before .before .before .before .if1 .left in omega arith)))
+returns-2 c = rw (c .with-rows2 .ensures) (rowing-left (now (c .before .before .before .before .before .before .before .before .before .before .before .before .before .before .before .args .s)) (c .before .before .before .before .before .before .before .before .before .before .before .before .before .before .before .args .spot .x) (now (c .before .before .before .before .before .before .before .before .before .before .before .before .before .before .before .args .at)) (now (c .before .before .before .before .before .before .before .before .before .before .before .before .before .before .before .args .t)) (c .before .before .before .before .before .before .before .before .before .before .before .before .before .before .before .args .spot .t) (c .before .before .before .before .before .before .before .before .before .before .before .before .before .before .before .args .spot .x .rows) (c .before .before .before .before .before .before .before .before .before .before .before .before .before .before .before .args .spot .p) (now (c .before .before .before .before .before .before .before .before .before .before .before .before .before .before .before .args .q)) (c .before .before .before .before .before .before .before .before .loop .n) (c .before .before .before .before .before .before .before .before .loop .last) (c .before .before .before .before .before .before .before .before .loop .p) (c .before .before .before .before .before .before .before .before .loop .q) (c .before .before .before .before .before .before .before .before .loop .inv) _ (rowing-same (now (c .before .before .before .before .before .before .before .before .before .before .before .before .before .before .before .args .s)) (c .before .before .before .before .before .before .before .before .before .before .before .before .before .before .before .args .spot .x) (now (c .before .before .before .before .before .before .before .before .before .before .before .before .before .before .before .args .at)) (now (c .before .before .before .before .before .before .before .before .before .before .before .before .before .before .before .args .t)) (c .before .before .before .before .before .before .before .before .before .before .before .before .before .before .before .args .spot .t) (c .before .before .before .before .before .before .before .before .before .before .before .before .before .before .before .args .spot .x .rows) (c .before .before .before .before .before .before .before .before .before .before .before .before .before .before .before .args .spot .p) (now (c .before .before .before .before .before .before .before .before .before .before .before .before .before .before .before .args .q)) (c .before .before .before .before .before .before .before .before .loop .n) (c .before .before .before .before .before .before .before .before .loop .last) (c .before .before .before .before .before .before .before .before .loop .p) (c .before .before .before .before .before .before .before .before .loop .q) (c .before .before .before .before .before .before .before .before .loop .inv) _ _ (rw (c .before .before .before .before .before .before .with-rows .ensures) at (c .before .before .before .before .take .ensures)) (not-true _ (c .before .if2 .taken))) (c .before .before .before .before .before .before .before .before .before .before .before .before .before .before .before .args .spot) (rows-of (now (c .before .before .before .before .before .before .before .before .before .before .before .before .before .before .before .args .s)) (c .before .before .before .before .before .before .before .before .before .before .before .before .before .before .before .args .spot .p) (c .before .before .before .before .before .before .before .before .before .before .before .before .before .before .before .args .spot .last) (c .before .before .before .before .before .before .before .before .before .before .before .before .before .before .before .args .spot .x) (now (c .before .before .before .before .before .before .before .before .before .before .before .before .before .before .before .args .at)) (c .before .before .before .before .before .before .before .before .before .before .before .before .before .before .before .pre .0 .turn .between) (let w = c .before .before .before .before .before .before .before .before .before .if1 .left in omega arith)))
 
 add-n : tie.Need-add-n Inv-loop μ-loop
-add-n c = let f = rowing-few (now (c .before .before .before .before .before .before .before .before .before .before .before .before .before .before .args .s)) (c .before .before .before .before .before .before .before .before .before .before .before .before .before .before .args .spot .x) (now (c .before .before .before .before .before .before .before .before .before .before .before .before .before .before .args .at)) (now (c .before .before .before .before .before .before .before .before .before .before .before .before .before .before .args .t)) (c .before .before .before .before .before .before .before .before .before .before .before .before .before .before .args .spot .t) (c .before .before .before .before .before .before .before .before .before .before .before .before .before .before .args .spot .x .rows) (c .before .before .before .before .before .before .before .before .before .before .before .before .before .before .args .spot .p) (now (c .before .before .before .before .before .before .before .before .before .before .before .before .before .before .args .q)) (c .before .before .before .before .before .before .before .loop .n) (c .before .before .before .before .before .before .before .loop .last) (c .before .before .before .before .before .before .before .loop .p) (c .before .before .before .before .before .before .before .loop .q) (c .before .before .before .before .before .before .before .loop .inv) _ (rw (c .before .before .before .before .before .with-rows .ensures) at (c .before .before .before .take-row .ensures .taken (not-false _ (c .if2 .left)))) in omega arith
+add-n c = let f = rowing-few (now (c .before .before .before .before .before .before .before .before .before .before .before .before .before .before .args .s)) (c .before .before .before .before .before .before .before .before .before .before .before .before .before .before .args .spot .x) (now (c .before .before .before .before .before .before .before .before .before .before .before .before .before .before .args .at)) (now (c .before .before .before .before .before .before .before .before .before .before .before .before .before .before .args .t)) (c .before .before .before .before .before .before .before .before .before .before .before .before .before .before .args .spot .t) (c .before .before .before .before .before .before .before .before .before .before .before .before .before .before .args .spot .x .rows) (c .before .before .before .before .before .before .before .before .before .before .before .before .before .before .args .spot .p) (now (c .before .before .before .before .before .before .before .before .before .before .before .before .before .before .args .q)) (c .before .before .before .before .before .before .before .loop .n) (c .before .before .before .before .before .before .before .loop .last) (c .before .before .before .before .before .before .before .loop .p) (c .before .before .before .before .before .before .before .loop .q) (c .before .before .before .before .before .before .before .loop .inv) _ (rowing-took (now (c .before .before .before .before .before .before .before .before .before .before .before .before .before .before .args .s)) (c .before .before .before .before .before .before .before .before .before .before .before .before .before .before .args .spot .x) (now (c .before .before .before .before .before .before .before .before .before .before .before .before .before .before .args .at)) (now (c .before .before .before .before .before .before .before .before .before .before .before .before .before .before .args .t)) (c .before .before .before .before .before .before .before .before .before .before .before .before .before .before .args .spot .t) (c .before .before .before .before .before .before .before .before .before .before .before .before .before .before .args .spot .x .rows) (c .before .before .before .before .before .before .before .before .before .before .before .before .before .before .args .spot .p) (now (c .before .before .before .before .before .before .before .before .before .before .before .before .before .before .args .q)) (c .before .before .before .before .before .before .before .loop .n) (c .before .before .before .before .before .before .before .loop .last) (c .before .before .before .before .before .before .before .loop .p) (c .before .before .before .before .before .before .before .loop .q) (c .before .before .before .before .before .before .before .loop .inv) _ _ (rw (c .before .before .before .before .before .with-rows .ensures) at (c .before .before .before .take .ensures)) (not-false _ (c .if2 .left))) in omega arith
 
 add-p : tie.Need-add-p Inv-loop μ-loop
-add-p c = let f = rowing-reach (now (c .before .before .before .before .before .before .before .before .before .before .before .before .before .before .args .s)) (c .before .before .before .before .before .before .before .before .before .before .before .before .before .before .args .spot .x) (now (c .before .before .before .before .before .before .before .before .before .before .before .before .before .before .args .at)) (now (c .before .before .before .before .before .before .before .before .before .before .before .before .before .before .args .t)) (c .before .before .before .before .before .before .before .before .before .before .before .before .before .before .args .spot .t) (c .before .before .before .before .before .before .before .before .before .before .before .before .before .before .args .spot .x .rows) (c .before .before .before .before .before .before .before .before .before .before .before .before .before .before .args .spot .p) (now (c .before .before .before .before .before .before .before .before .before .before .before .before .before .before .args .q)) (c .before .before .before .before .before .before .before .loop .n) (c .before .before .before .before .before .before .before .loop .last) (c .before .before .before .before .before .before .before .loop .p) (c .before .before .before .before .before .before .before .loop .q) (c .before .before .before .before .before .before .before .loop .inv) _ (rw (c .before .before .before .before .before .with-rows .ensures) at (c .before .before .before .take-row .ensures .taken (not-false _ (c .if2 .left)))) in omega arith
+add-p c = let f = rowing-reach (now (c .before .before .before .before .before .before .before .before .before .before .before .before .before .before .args .s)) (c .before .before .before .before .before .before .before .before .before .before .before .before .before .before .args .spot .x) (now (c .before .before .before .before .before .before .before .before .before .before .before .before .before .before .args .at)) (now (c .before .before .before .before .before .before .before .before .before .before .before .before .before .before .args .t)) (c .before .before .before .before .before .before .before .before .before .before .before .before .before .before .args .spot .t) (c .before .before .before .before .before .before .before .before .before .before .before .before .before .before .args .spot .x .rows) (c .before .before .before .before .before .before .before .before .before .before .before .before .before .before .args .spot .p) (now (c .before .before .before .before .before .before .before .before .before .before .before .before .before .before .args .q)) (c .before .before .before .before .before .before .before .loop .n) (c .before .before .before .before .before .before .before .loop .last) (c .before .before .before .before .before .before .before .loop .p) (c .before .before .before .before .before .before .before .loop .q) (c .before .before .before .before .before .before .before .loop .inv) _ (rowing-took (now (c .before .before .before .before .before .before .before .before .before .before .before .before .before .before .args .s)) (c .before .before .before .before .before .before .before .before .before .before .before .before .before .before .args .spot .x) (now (c .before .before .before .before .before .before .before .before .before .before .before .before .before .before .args .at)) (now (c .before .before .before .before .before .before .before .before .before .before .before .before .before .before .args .t)) (c .before .before .before .before .before .before .before .before .before .before .before .before .before .before .args .spot .t) (c .before .before .before .before .before .before .before .before .before .before .before .before .before .before .args .spot .x .rows) (c .before .before .before .before .before .before .before .before .before .before .before .before .before .before .args .spot .p) (now (c .before .before .before .before .before .before .before .before .before .before .before .before .before .before .args .q)) (c .before .before .before .before .before .before .before .loop .n) (c .before .before .before .before .before .before .before .loop .last) (c .before .before .before .before .before .before .before .loop .p) (c .before .before .before .before .before .before .before .loop .q) (c .before .before .before .before .before .before .before .loop .inv) _ _ (rw (c .before .before .before .before .before .with-rows .ensures) at (c .before .before .before .take .ensures)) (not-false _ (c .if2 .left))) in omega arith
 
 loop-less : tie.Need-loop-less Inv-loop μ-loop
 loop-less c = search needs
 
 loop-again : tie.Need-loop-again Inv-loop μ-loop
-loop-again c = rowing-next (now (c .before .before .before .before .before .before .before .before .before .before .before .before .before .before .args .s)) (c .before .before .before .before .before .before .before .before .before .before .before .before .before .before .args .spot .x) (now (c .before .before .before .before .before .before .before .before .before .before .before .before .before .before .args .at)) (now (c .before .before .before .before .before .before .before .before .before .before .before .before .before .before .args .t)) (c .before .before .before .before .before .before .before .before .before .before .before .before .before .before .args .spot .t) (c .before .before .before .before .before .before .before .before .before .before .before .before .before .before .args .spot .x .rows) (c .before .before .before .before .before .before .before .before .before .before .before .before .before .before .args .spot .p) (now (c .before .before .before .before .before .before .before .before .before .before .before .before .before .before .args .q)) (c .before .before .before .before .before .before .before .loop .n) (c .before .before .before .before .before .before .before .loop .last) (c .before .before .before .before .before .before .before .loop .p) (c .before .before .before .before .before .before .before .loop .q) (c .before .before .before .before .before .before .before .loop .inv) _ (rw (c .before .before .before .before .before .with-rows .ensures) at (c .before .before .before .take-row .ensures .taken (not-false _ (c .if2 .left)))) (c .before .before .before .before .before .before .loop-test .taken)
+loop-again c = rowing-next (now (c .before .before .before .before .before .before .before .before .before .before .before .before .before .before .args .s)) (c .before .before .before .before .before .before .before .before .before .before .before .before .before .before .args .spot .x) (now (c .before .before .before .before .before .before .before .before .before .before .before .before .before .before .args .at)) (now (c .before .before .before .before .before .before .before .before .before .before .before .before .before .before .args .t)) (c .before .before .before .before .before .before .before .before .before .before .before .before .before .before .args .spot .t) (c .before .before .before .before .before .before .before .before .before .before .before .before .before .before .args .spot .x .rows) (c .before .before .before .before .before .before .before .before .before .before .before .before .before .before .args .spot .p) (now (c .before .before .before .before .before .before .before .before .before .before .before .before .before .before .args .q)) (c .before .before .before .before .before .before .before .loop .n) (c .before .before .before .before .before .before .before .loop .last) (c .before .before .before .before .before .before .before .loop .p) (c .before .before .before .before .before .before .before .loop .q) (c .before .before .before .before .before .before .before .loop .inv) _ (rowing-took (now (c .before .before .before .before .before .before .before .before .before .before .before .before .before .before .args .s)) (c .before .before .before .before .before .before .before .before .before .before .before .before .before .before .args .spot .x) (now (c .before .before .before .before .before .before .before .before .before .before .before .before .before .before .args .at)) (now (c .before .before .before .before .before .before .before .before .before .before .before .before .before .before .args .t)) (c .before .before .before .before .before .before .before .before .before .before .before .before .before .before .args .spot .t) (c .before .before .before .before .before .before .before .before .before .before .before .before .before .before .args .spot .x .rows) (c .before .before .before .before .before .before .before .before .before .before .before .before .before .before .args .spot .p) (now (c .before .before .before .before .before .before .before .before .before .before .before .before .before .before .args .q)) (c .before .before .before .before .before .before .before .loop .n) (c .before .before .before .before .before .before .before .loop .last) (c .before .before .before .before .before .before .before .loop .p) (c .before .before .before .before .before .before .before .loop .q) (c .before .before .before .before .before .before .before .loop .inv) _ _ (rw (c .before .before .before .before .before .with-rows .ensures) at (c .before .before .before .take .ensures)) (not-false _ (c .if2 .left))) (c .before .before .before .before .before .before .loop-test .taken)
 
 with-rows-requires-3 : tie.Need-with-rows-requires-3 Inv-loop μ-loop
 with-rows-requires-3 c κs = search needs
@@ -74,7 +74,7 @@ rows-spec =
     loop-holds
     cast-loop
     with-rows-requires
-    take-row-requires
+    take-requires
     with-rows-requires-2
     same-length
     returns-2

@@ -4,12 +4,12 @@
 --     TakenEvent                    an event has been taken into the places, the table and the tally
 --     Fitting                       a shape is that of an event that is no init
 --     Clear, Lined, FirstTold       no event so far lies at `high` or behind; all are inits; the test of an init
---     KnownRow, JoinedRow           the tests of a row
---     PlainRow, TakenRow            the field at p is a row without a fault, behind an event or a row; it has been taken
+--     PlainRow, PlainRowPut         the field at p is a row without a fault, behind an event or a row; it has been taken
+--     KnownRow                      what its first tests say
 --     Growing, Rowing               the loops over events and over rows
 -- Assumes nothing.
 use mathlib.Core.Path.{_≡_}
-use mathlib.Core.Bool.{Bool, true, false, not, _&&_}
+use mathlib.Core.Bool.{Bool, true, false}
 use mathlib.Core.List.{List}
 use Prim.Native.Nat.{ℕ, _+_, _<_, _≤_}
 use lib.Dec.{eqb}
@@ -18,7 +18,6 @@ use Rattle.basis.specs.Test.{_and_, _or_, any, all}
 use Rattle.format.specs.declared.Head.{Head}
 use Rattle.format.specs.declared.Shape.{Shape}
 use Rattle.format.specs.declared.Row.{Row}
-use Rattle.format.specs.Shape.{covers, reads, writes}
 use Rattle.format.specs.Event.{Event, isInit, meets}
 use Rattle.format.specs.Field.{tagAt, lengthAt, nextAt, restAt}
 use Rattle.format.specs.Layout.{shapeOf, rowBytes}
@@ -77,22 +76,10 @@ pub record KnownRow (s : List ℕ) (p : ℕ) (x : Counts) (r : Row) : Type 0 whe
   pub writer : r .writer < x .events
   pub room : x .rows < rowRoom
 
--- r joins a reader whose access is a with a writer whose access is b
-pub record JoinedRow (r : Row) (a b : Shape) : Type 0 where
-  pub reads : (covers a (r .address) && reads a) ≡ true
-  pub writes : (covers b (r .address) && writes b) ≡ true
-  pub apart : not (eqb (r .reader) (r .writer)) ≡ true
-  pub read-from : a .start ≤ r .address
-  pub written-from : b .start ≤ r .address
-
 pub record PlainRowPut (s : List ℕ) (p : ℕ) (x : Counts) (at t q q′ : List ℕ) : Type 0 where
   pub plain : PlainRow s p x at
   pub next : nextAt s p ≡ p + 6
   pub put : q′ ≡ rowPut s x at t (x .rows) q
-
-pub record TakenRow (s : List ℕ) (p : ℕ) (x : Counts) (at t q : List ℕ) (r : Bool) (q′ : List ℕ) : Type 0 where
-  pub taken : r ≡ true → PlainRowPut s p x at t q q′
-  pub left : r ≡ false → q′ ≡ q
 
 -- ---- the loops over events and over rows
 

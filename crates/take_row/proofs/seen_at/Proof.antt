@@ -1,12 +1,12 @@
--- `plain::wrote_at` meets its contract: the place of the byte in the sheet. Assumes nothing.
+-- `take_row::seen_at` meets its contract: the place of the byte in the sheet. Assumes nothing.
 use mathlib.Core.Path.{ap, _∙_}
 use Prim.Native.Nat.{ℕ}
 use native.Mathlib.Omega.{arith}
 use denote.Ref.{now}
 use lib.ListN.{getD}
 use borrow.Author.Needs.{needs}
-use Rattle.plain.proofs.wrote_at.Statement.{statement}
-use Rattle.plain.proofs.wrote_at.Tie as tie
+use Rattle.take_row.proofs.seen_at.Statement.{statement}
+use Rattle.take_row.proofs.seen_at.Tie as tie
 
 event-bytes-requires : tie.Need-event-bytes-requires
 event-bytes-requires c κs = search needs
@@ -29,23 +29,14 @@ cast-byte c = search needs
 add-byte-2 : tie.Need-add-byte-2
 add-byte-2 c = search needs
 
-passed-requires : tie.Need-passed-requires
-passed-requires c κs = search needs
-
-cast-byte-2 : tie.Need-cast-byte-2
-cast-byte-2 c = search needs
-
-add-byte-3 : tie.Need-add-byte-3
-add-byte-3 c = search needs
-
 byte-requires : tie.Need-byte-requires
 byte-requires c κs = search needs
 
 returns : tie.Need-returns
-returns c = let e = c .before .before .before .event-bytes .ensures in let f = c .before .passed .ensures .0 in c .byte .ensures ∙ ap (λ (i : ℕ). getD (now (c .before .before .before .before .before .args .s)) i 0) (omega arith)
+returns c = let e = c .before .before .event-bytes .ensures in c .byte .ensures ∙ ap (λ (i : ℕ). getD (now (c .before .before .before .before .args .s)) i 0) (omega arith)
 
-pub wrote-at-spec : {M : Type 1} → statement M
-wrote-at-spec =
+pub seen-at-spec : {M : Type 1} → statement M
+seen-at-spec =
     tie.close
     (tie.spec
     event-bytes-requires
@@ -55,8 +46,5 @@ wrote-at-spec =
     sub-byte
     cast-byte
     add-byte-2
-    passed-requires
-    cast-byte-2
-    add-byte-3
     byte-requires
     returns)

@@ -1,10 +1,10 @@
--- `plain::passed` meets its contract: nothing, or the width. Assumes nothing.
+-- `take_row::passed` meets its contract: nothing, or the width. Assumes nothing.
 use native.Mathlib.Omega.{arith}
 use lib.Dec.{eqb}
 use Rattle.spot.proofs.TallyLaws.{by-test, at-most}
 use borrow.Author.Needs.{needs}
-use Rattle.plain.proofs.passed.Statement.{statement}
-use Rattle.plain.proofs.passed.Tie as tie
+use Rattle.take_row.proofs.passed.Statement.{statement}
+use Rattle.take_row.proofs.passed.Tie as tie
 
 cast-result : tie.Need-cast-result
 cast-result c = search needs

@@ -1,5 +1,7 @@
 -- The loops over events and over rows, which take fields that pass every test. Assumes nothing.
 --     growing-start, growing-reach, growing-few, growing-next, growing-end      over events
+--     head-left, init-left, other-left, row-left                                what is left through all steps
+--     ended, failed, inits-kept, others-kept                                what is left
 --     row-took                                                                  a row
 --     rowing-start, rowing-same, rowing-took, rowing-few, rowing-next, rowing-left, rowing-end     over rows
 use Prim.Native.Nat.{ℕ, _+_, _*_, _%_, _<_, _≤_}
@@ -8,11 +10,11 @@ use mathlib.Core.Bool.{Bool, true, false, cond}
 use mathlib.Core.List.{List}
 use native.Mathlib.Omega.{arith}
 use native.Mathlib.Nat.{mod-eq-of-lt}
-use borrow.Author.Tests.{leb-true, eqb-true, ltb-true}
-use lib.Dec.{eqb, leb}
+use borrow.Author.Tests.{leb-true, eqb-true, ltb-true, ltb-false, le-ltb}
+use lib.Dec.{eqb, leb, ltb}
 use lib.ListN.{length, getD, length-set}
 use Rattle.basis.specs.Test.{_and_}
-use Rattle.basis.proofs.BoolLaws.{and-both}
+use Rattle.basis.proofs.BoolLaws.{by-bool, and-both, and-fails, and-false}
 use Rattle.sets.specs.Mask.{slots}
 use Rattle.format.specs.declared.Head.{Head}
 use Rattle.format.specs.declared.Shape.{Shape}
@@ -25,7 +27,7 @@ use Rattle.content.specs.Content.{within}
 use Rattle.content.proofs.ContentLaws.{within-holds, within-elim}
 use Rattle.entries.specs.declared.Counts.{Counts}
 use Rattle.entries.specs.Entries.{eventsIn, rowNo}
-use Rattle.faults.specs.Faults.{frontBytes, PlainEvent}
+use Rattle.faults.specs.Faults.{frontBytes, PlainEvent, headTest}
 use Rattle.tables.specs.Tables.{rowRoom, puttingRow}
 use Rattle.row_data.specs.RowData.{laidShape, dataAt, passed, rowPut}
 use Rattle.row_data.proofs.RowDataLaws.{row-length}
@@ -34,7 +36,8 @@ use Rattle.take_row.specs.Taken.{rowHere, knownTest, joinTest, riseTest, reader
 use Rattle.spot.specs.declared.Tally.{Tally}
 use Rattle.spot.specs.declared.Spot.{Spot}
 use Rattle.spot.specs.Between.{Turn, Tallied, Stands, Carried, Shaped, behind, withRows}
-use Rattle.plain.specs.steps.Growing.{Grown, TakenEvent, PlainRow, KnownRow, PlainRowPut, Growing, Rowing}
+use Rattle.plain.specs.Fields.{initNext, otherNext, rowNext}
+use Rattle.plain.specs.steps.Growing.{Grown, TakenEvent, PlainRow, KnownRow, PlainRowPut, Growing, Rowing, BeginLeft, InitsLeft, EventsLeft, RowsLeft}
 use Rattle.spot.proofs.BetweenLaws.{counted-of}
 use Rattle.spot.proofs.TallyLaws.{tally-room}
 use Rattle.plain.proofs.PlainLaws.{plain-reach, plain-few, plain-here, plain-next, plain-tally, row-plain, rises-told, row-tested, row-reach, row-room, row-next}
@@ -215,3 +218,54 @@ module _ (s : List ℕ) (x : Counts) (at t : List ℕ) (k : Tally) (n₀ p₀ : 
           carried = λ y z f. rw (e .put) (tabled-row s (withRows x n p) at y t z q (g .carried y z f) (p + 6));
           size = ap length (e .put) ∙ row-length s (withRows x n p) at t n q ∙ g .size;
         }
+
+-- ---- what is left
+
+-- at the end of the sheet, and where a test fails
+pub ended : (s : List ℕ) (p : ℕ) (b : Bool) → length s ≤ p → (ltb p (length s) and b) ≡ false
+ended s p b h = and-fails _ _ (le-ltb p (length s) h)
+
+pub failed : (a b : Bool) → b ≡ false → (a and b) ≡ false
+failed a b e = ap (λ (c : Bool). a and c) e ∙ and-false a
+
+-- where nothing was taken
+pub inits-kept : (s : List ℕ) (x : Counts) (h : Head) (i n₀ p₀ n p : ℕ) (at₀ at : List ℕ) → x ≡ behind h i n₀ p₀ → p ≡ p₀ → n ≡ n₀ → at ≡ at₀
+    → initNext s p (behind h i n p) at ≡ initNext s p₀ x at₀
+inits-kept s x h i n₀ p₀ n p at₀ at ex ep en ea = rw (ex, ep, en, ea) refl
+
+pub others-kept : (s : List ℕ) (x : Counts) (n p p₀ : ℕ) → x ≡ withRows x (x .rows) p₀ → p ≡ p₀ → n ≡ x .rows
+    → otherNext s p (withRows x n p) ≡ otherNext s p₀ x
+others-kept s x n p p₀ ex ep en =
+    ap (λ (k : ℕ). otherNext s k (withRows x n k)) ep ∙ ap (λ (k : ℕ). otherNext s p₀ (withRows x k p₀)) en ∙ ap (otherNext s p₀) (sym ex)
+
+-- through the steps
+pub head-left : {s t : List ℕ} {b f e r : Spot} {at at′ : List ℕ} → BeginLeft s b → InitsLeft s b f at → EventsLeft s f at e at′ → RowsLeft s t e r → r .last ≡ 0
+    → headTest s ≡ false
+head-left g i h k z = let u = k .early (omega (arith, z)) in g .no-head (i .first (h .first (sym (ap (λ (z : Spot). z .last) u) ∙ z)))
+
+pub init-left : {s t : List ℕ} {b f e r : Spot} {at at′ : List ℕ} → InitsLeft s b f at → EventsLeft s f at e at′ → RowsLeft s t e r → r .last ≡ 1
+    → initNext s (r .p) (r .x) at′ ≡ false
+init-left {s} {t} {b} {f} {e} {r} {at} {at′} i h k z =
+    let u = k .early (omega (arith, z)) in
+    let v = h .kept (sym (ap (λ (z : Spot). z .last) u) ∙ z) in
+    ap (λ (z : Spot). initNext s (z .p) (z .x) at′) u ∙ v .1 ∙ i .no-init (v .0)
+
+pub row-left : {s t : List ℕ} {b f e r : Spot} {at at′ : List ℕ} → BeginLeft s b → InitsLeft s b f at → EventsLeft s f at e at′ → RowsLeft s t e r
+    → within 2 3 (r .last) ≡ true → rowNext s (r .p) (r .x) t ≡ false
+row-left {s} {t} {b} {f} {e} {r} g i h k w = k .no-row (within-elim 2 3 (r .last) w .0) (h .low (i .low (g .low)))
+
+pub other-left : {s t : List ℕ} {f e r : Spot} {at at′ : List ℕ} → EventsLeft s f at e at′ → RowsLeft s t e r → within 1 2 (r .last) ≡ true
+    → otherNext s (r .p) (r .x) ≡ false
+other-left {s} {t} {f} {e} {r} {at} {at′} h k w = by-bool (ltb (r .last) 2) early late
+  where
+    early : ltb (r .last) 2 ≡ true → otherNext s (r .p) (r .x) ≡ false
+    early l =
+        let g = k .early (ltb-true (r .last) 2 l) in
+        ap (λ (z : Spot). otherNext s (z .p) (z .x)) g ∙ h .no-other (subst (λ (z : Spot). within 1 2 (z .last) ≡ true) g w)
+
+    late : ltb (r .last) 2 ≡ false → otherNext s (r .p) (r .x) ≡ false
+    late l =
+        let v = within-elim 1 2 (r .last) w in
+        let u = ltb-false (r .last) 2 l in
+        let g = k .kept (omega (arith, v .1, u)) in
+        g .1 ∙ h .no-other (let z = g .0 in within-holds 1 2 (e .last) (omega (arith, z)) (omega (arith, z)))

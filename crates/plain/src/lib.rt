@@ -23,7 +23,7 @@ ghost use Rattle.entries.specs.Entries.{eventsIn};
 ghost use Rattle.faults.specs.Faults.{frontBytes};
 ghost use Rattle.spot.specs.Between.{blankPlaces, Stands, Tabled, Carried, Shaped, withRows};
 ghost use Rattle.plain.specs.Fields.{PlainFields};
-ghost use Rattle.plain.specs.steps.Growing.{startSpot, Grown, TakenEvent, Fitting, Lined, FirstTold};
+ghost use Rattle.plain.specs.steps.Growing.{startSpot, Grown, TakenEvent, Fitting, Lined, FirstTold, BeginLeft, InitsLeft, EventsLeft, RowsLeft};
 
 fn clear(at: &mut [u16])
     requires { ⌜ length (now at) ≡ slots ⌝ }
@@ -52,7 +52,7 @@ fn start() -> Spot
 // Behind the head.
 fn begin(s: &[u8]) -> Spot
     requires { ⌜ length (now s) ≤ maxBytes ⌝ }
-    ensures { λ r. ⌜ Stands (now (s .entry)) r blankPlaces × ((t q : List ℕ) → Tabled (now (s .entry)) (r .x) blankPlaces t t q q) ⌝ }
+    ensures { λ r. ⌜ Stands (now (s .entry)) r blankPlaces × ((t q : List ℕ) → Tabled (now (s .entry)) (r .x) blankPlaces t t q q) × BeginLeft (now (s .entry)) r ⌝ }
 {
     let plain = faults::plain_head(s);
     if !plain {
@@ -163,7 +163,7 @@ fn end_of(s: &[u8], p: u16, high: u16) -> u16
 
 fn inits(s: &[u8], spot: Spot, at: &mut [u16], t: &mut [u8]) -> Spot
     requires { ⌜ Stands (now s) spot (now at) ⌝ }
-    ensures { λ r. ⌜ Grown (now (s .entry)) spot (now (at .entry)) (now (t .entry)) r (now (at .exit)) (now (t .exit)) ⌝ }
+    ensures { λ r. ⌜ Grown (now (s .entry)) spot (now (at .entry)) (now (t .entry)) r (now (at .exit)) (now (t .exit)) × InitsLeft (now (s .entry)) spot r (now (at .exit)) ⌝ }
 {
     let h = spot.x.head;
     let mut n = spot.x.events;
@@ -202,7 +202,7 @@ fn inits(s: &[u8], spot: Spot, at: &mut [u16], t: &mut [u8]) -> Spot
 
 fn events(s: &[u8], spot: Spot, at: &mut [u16], t: &mut [u8]) -> Spot
     requires { ⌜ Stands (now s) spot (now at) ⌝ }
-    ensures { λ r. ⌜ Grown (now (s .entry)) spot (now (at .entry)) (now (t .entry)) r (now (at .exit)) (now (t .exit)) ⌝ }
+    ensures { λ r. ⌜ Grown (now (s .entry)) spot (now (at .entry)) (now (t .entry)) r (now (at .exit)) (now (t .exit)) × EventsLeft (now (s .entry)) spot (now (at .entry)) r (now (at .exit)) ⌝ }
 {
     let h = spot.x.head;
     let inits = spot.x.inits;
@@ -266,7 +266,7 @@ fn with_rows(x: Counts, n: u16, p: u16) -> Counts
 
 fn rows(s: &[u8], spot: Spot, at: &[u16], t: &[u8; COLUMNS], q: &mut [u8]) -> Spot
     requires { ⌜ Stands (now s) spot (now at) × Shaped (now s) (spot .x) (now at) (now t) ⌝ }
-    ensures { λ r. ⌜ Stands (now (s .entry)) r (now (at .entry)) × Carried (now (s .entry)) (spot .x) (now (at .entry)) (now (t .entry)) (now (q .entry)) (r .x) (now (at .entry)) (now (t .entry)) (now (q .exit)) ⌝ }
+    ensures { λ r. ⌜ Stands (now (s .entry)) r (now (at .entry)) × Carried (now (s .entry)) (spot .x) (now (at .entry)) (now (t .entry)) (now (q .entry)) (r .x) (now (at .entry)) (now (t .entry)) (now (q .exit)) × RowsLeft (now (s .entry)) (now (t .entry)) spot r ⌝ }
 {
     let x = spot.x;
     let k = spot.t;

@@ -1,8 +1,8 @@
 -- `plain::begin` meets its contract: at the start, or behind a head. Assumes nothing.
-use mathlib.Core.Path.{refl}
+use mathlib.Core.Path.{refl, sym, _∙_}
 use native.Mathlib.Omega.{arith}
 use denote.Ref.{now}
-use borrow.Author.Tests.{not-false}
+use borrow.Author.Tests.{not-false, not-true}
 use Rattle.spot.proofs.BetweenLaws.{turn-start}
 use Rattle.spot.specs.Between.{blankPlaces}
 use Rattle.spot.proofs.TallyLaws.{tallied-start}
@@ -19,7 +19,7 @@ start-requires : tie.Need-start-requires
 start-requires c κs = search needs
 
 returns : tie.Need-returns
-returns c = rw (c .start .ensures) (record { turn = turn-start (now (c .before .before .before .before .args .s)) (c .before .before .before .before .pre); tallied = tallied-start (now (c .before .before .before .before .args .s)) 0 blankPlaces }, λ t q. tabled-none (now (c .before .before .before .before .args .s)) _ blankPlaces t q refl refl)
+returns c = rw (c .start .ensures) (record { turn = turn-start (now (c .before .before .before .before .args .s)) (c .before .before .before .before .pre); tallied = tallied-start (now (c .before .before .before .before .args .s)) 0 blankPlaces }, λ t q. tabled-none (now (c .before .before .before .before .args .s)) _ blankPlaces t q refl refl, record { low = omega arith; no-head = λ e. sym (c .before .before .plain-head .ensures .is) ∙ not-true _ (c .before .if1 .taken) })
 
 next-at-requires : tie.Need-next-at-requires
 next-at-requires c κs = search needs
@@ -42,7 +42,7 @@ behind-requires c κs = search needs
 returns-2 : tie.Need-returns-2
 returns-2 c =
     simp (c .behind .ensures, c .before .head-of .ensures, c .before .before .byte .ensures, c .before .before .before .value-at .ensures, c .before .before .before .before .next-at .ensures)
-    (record { turn = head-next (now (c .before .before .before .before .before .before .before .before .args .s)) (c .before .before .before .before .before .before .before .before .pre) (c .before .before .before .before .before .before .plain-head .ensures .clean (not-false _ (c .before .before .before .before .before .if1 .left))); tallied = tallied-start (now (c .before .before .before .before .before .before .before .before .args .s)) _ blankPlaces }, λ t q. tabled-none (now (c .before .before .before .before .before .before .before .before .args .s)) _ blankPlaces t q refl refl)
+    (record { turn = head-next (now (c .before .before .before .before .before .before .before .before .args .s)) (c .before .before .before .before .before .before .before .before .pre) (c .before .before .before .before .before .before .plain-head .ensures .clean (not-false _ (c .before .before .before .before .before .if1 .left))); tallied = tallied-start (now (c .before .before .before .before .before .before .before .before .args .s)) _ blankPlaces }, λ t q. tabled-none (now (c .before .before .before .before .before .before .before .before .args .s)) _ blankPlaces t q refl refl, record { low = omega arith; no-head = λ e. absurd (omega arith) })
 
 pub begin-spec : {M : Type 1} → statement M
 begin-spec =

@@ -5,15 +5,15 @@ use mathlib.Core.Bool.{true}
 use Prim.Native.Nat.{_-_}
 use denote.Ref.{now}
 use native.Mathlib.Omega.{arith}
-use borrow.Author.Tests.{not-false}
+use borrow.Author.Tests.{not-false, not-true}
 use lib.ListN.{length}
-use Rattle.content.proofs.ContentLaws.{within-holds}
+use Rattle.content.proofs.ContentLaws.{within-holds, within-elim}
 use Rattle.entries.specs.Entries.{eventsIn}
 use Rattle.spot.specs.Between.{behind}
 use Rattle.plain.specs.steps.Growing.{Growing, Clear}
 use Rattle.spot.proofs.TabledLaws.{behind-first}
 use Rattle.plain.proofs.LinedLaws.{lined-of, clear-start, clear-next}
-use Rattle.plain.proofs.GrowingLaws.{growing-start, growing-reach, growing-few, growing-next, growing-end}
+use Rattle.plain.proofs.GrowingLaws.{growing-start, growing-reach, growing-few, growing-next, growing-end, ended, failed}
 use borrow.Author.Needs.{needs}
 use Rattle.plain.proofs.inits.Statement.{statement}
 use Rattle.plain.proofs.inits.Tie as tie
@@ -25,7 +25,7 @@ abbrev μ-loop : tie.MeasureT-loop
 μ-loop s at₀ t₀ h n₀ k₀ last₀ p₀ high₀ at t n k last p high = length s - p
 
 returns : tie.Need-returns Inv-loop μ-loop
-returns c = record { stands = c .before .before .before .before .before .before .pre; carried = λ q t₀ q₀ g. g }
+returns c = (record { stands = c .before .before .before .before .before .before .pre; carried = λ q t₀ q₀ g. g }, record { low = λ h. omega arith; first = λ e. e; no-init = λ e. absurd (c .if1 .taken e) })
 
 loop-holds : tie.Need-loop-holds Inv-loop μ-loop
 loop-holds c = (growing-start (now (c .before .before .before .before .before .before .args .s)) (c .before .before .before .before .before .before .args .spot) (c .before .before .before .before .before .before .args .spot .x .events) (now (c .before .before .before .before .before .before .args .at)) (now (c .before .before .before .before .before .before .args .t)) (c .before .before .before .before .before .before .pre) (rw (c .if1 .left) (within-holds 1 2 1 (omega arith) (omega arith))) (behind-first (now (c .before .before .before .before .before .before .args .s)) (c .before .before .before .before .before .before .args .spot .p) (c .before .before .before .before .before .before .args .spot .last) (c .before .before .before .before .before .before .args .spot .x) (now (c .before .before .before .before .before .before .args .at)) (c .before .before .before .before .before .before .pre .turn .between) (let w = c .if1 .left in omega arith)), clear-start (now (c .before .before .before .before .before .before .args .s)) (c .before .before .before .before .before .before .args .spot .x .head .edition) (c .before .before .before .before .before .before .args .spot .x .events) (now (c .before .before .before .before .before .before .args .at)) 0 (c .before .before .before .before .before .before .pre .turn .between .no-events (let w = c .if1 .left in omega arith)))
@@ -49,7 +49,7 @@ same-length-2 : tie.Need-same-length-2 Inv-loop μ-loop
 same-length-2 c = c .before .before .before .before .before .before .loop .inv .0 .size
 
 returns-2 : tie.Need-returns-2 Inv-loop μ-loop
-returns-2 c = rw (c .behind2 .ensures) (growing-end (now (c .before .before .before .before .before .before .before .before .before .before .before .before .before .args .s)) (c .before .before .before .before .before .before .before .before .before .before .before .before .before .args .spot .x .head) (c .before .before .before .before .before .before .before .before .before .before .before .before .before .args .spot .x .events) (c .before .before .before .before .before .before .before .before .before .before .before .before .before .args .spot .x .events) (c .before .before .before .before .before .before .before .before .before .before .before .before .before .args .spot .p) (now (c .before .before .before .before .before .before .before .before .before .before .before .before .before .args .at)) (now (c .before .before .before .before .before .before .before .before .before .before .before .before .before .args .t)) (c .before .before .before .before .before .before .loop .n) (c .before .before .before .before .before .before .loop .n) (c .before .before .before .before .before .before .loop .k) (c .before .before .before .before .before .before .loop .last) (c .before .before .before .before .before .before .loop .p) (c .before .before .before .before .before .before .loop .at) (c .before .before .before .before .before .before .loop .t) (c .before .before .before .before .before .before .loop .inv .0) (c .before .before .before .before .before .before .before .before .before .before .before .before .before .args .spot) (behind-first (now (c .before .before .before .before .before .before .before .before .before .before .before .before .before .args .s)) (c .before .before .before .before .before .before .before .before .before .before .before .before .before .args .spot .p) (c .before .before .before .before .before .before .before .before .before .before .before .before .before .args .spot .last) (c .before .before .before .before .before .before .before .before .before .before .before .before .before .args .spot .x) (now (c .before .before .before .before .before .before .before .before .before .before .before .before .before .args .at)) (c .before .before .before .before .before .before .before .before .before .before .before .before .before .pre .turn .between) (let w = c .before .before .before .before .before .before .before .if1 .left in omega arith)))
+returns-2 c = let w = within-elim 1 2 (c .before .before .before .before .before .before .loop .last) (c .before .before .before .before .before .before .loop .inv .0 .early) in rw (c .behind2 .ensures) ((growing-end (now (c .before .before .before .before .before .before .before .before .before .before .before .before .before .args .s)) (c .before .before .before .before .before .before .before .before .before .before .before .before .before .args .spot .x .head) (c .before .before .before .before .before .before .before .before .before .before .before .before .before .args .spot .x .events) (c .before .before .before .before .before .before .before .before .before .before .before .before .before .args .spot .x .events) (c .before .before .before .before .before .before .before .before .before .before .before .before .before .args .spot .p) (now (c .before .before .before .before .before .before .before .before .before .before .before .before .before .args .at)) (now (c .before .before .before .before .before .before .before .before .before .before .before .before .before .args .t)) (c .before .before .before .before .before .before .loop .n) (c .before .before .before .before .before .before .loop .n) (c .before .before .before .before .before .before .loop .k) (c .before .before .before .before .before .before .loop .last) (c .before .before .before .before .before .before .loop .p) (c .before .before .before .before .before .before .loop .at) (c .before .before .before .before .before .before .loop .t) (c .before .before .before .before .before .before .loop .inv .0) (c .before .before .before .before .before .before .before .before .before .before .before .before .before .args .spot) (behind-first (now (c .before .before .before .before .before .before .before .before .before .before .before .before .before .args .s)) (c .before .before .before .before .before .before .before .before .before .before .before .before .before .args .spot .p) (c .before .before .before .before .before .before .before .before .before .before .before .before .before .args .spot .last) (c .before .before .before .before .before .before .before .before .before .before .before .before .before .args .spot .x) (now (c .before .before .before .before .before .before .before .before .before .before .before .before .before .args .at)) (c .before .before .before .before .before .before .before .before .before .before .before .before .before .pre .turn .between) (let w = c .before .before .before .before .before .before .before .if1 .left in omega arith))), record { low = λ h. w .1; first = λ e. absurd (omega (arith, w .0, e)); no-init = λ e. failed _ _ (sym ((rw (c .before .before .before .before .behind .ensures) at (c .before .before .plain-first .ensures)) .is) ∙ not-true _ (c .before .if2 .taken)) })
 
 next-at-requires : tie.Need-next-at-requires Inv-loop μ-loop
 next-at-requires c κs = search needs
@@ -88,7 +88,7 @@ same-length-4 : tie.Need-same-length-4 Inv-loop μ-loop
 same-length-4 c = c .before .before .loop .inv .0 .size
 
 returns-3 : tie.Need-returns-3 Inv-loop μ-loop
-returns-3 c = rw (c .behind3 .ensures) (growing-end (now (c .before .before .before .before .before .before .before .before .before .args .s)) (c .before .before .before .before .before .before .before .before .before .args .spot .x .head) (c .before .before .before .before .before .before .before .before .before .args .spot .x .events) (c .before .before .before .before .before .before .before .before .before .args .spot .x .events) (c .before .before .before .before .before .before .before .before .before .args .spot .p) (now (c .before .before .before .before .before .before .before .before .before .args .at)) (now (c .before .before .before .before .before .before .before .before .before .args .t)) (c .before .before .loop .n) (c .before .before .loop .n) (c .before .before .loop .k) (c .before .before .loop .last) (c .before .before .loop .p) (c .before .before .loop .at) (c .before .before .loop .t) (c .before .before .loop .inv .0) (c .before .before .before .before .before .before .before .before .before .args .spot) (behind-first (now (c .before .before .before .before .before .before .before .before .before .args .s)) (c .before .before .before .before .before .before .before .before .before .args .spot .p) (c .before .before .before .before .before .before .before .before .before .args .spot .last) (c .before .before .before .before .before .before .before .before .before .args .spot .x) (now (c .before .before .before .before .before .before .before .before .before .args .at)) (c .before .before .before .before .before .before .before .before .before .pre .turn .between) (let w = c .before .before .before .if1 .left in omega arith)))
+returns-3 c = let w = within-elim 1 2 (c .before .before .loop .last) (c .before .before .loop .inv .0 .early) in rw (c .behind3 .ensures) ((growing-end (now (c .before .before .before .before .before .before .before .before .before .args .s)) (c .before .before .before .before .before .before .before .before .before .args .spot .x .head) (c .before .before .before .before .before .before .before .before .before .args .spot .x .events) (c .before .before .before .before .before .before .before .before .before .args .spot .x .events) (c .before .before .before .before .before .before .before .before .before .args .spot .p) (now (c .before .before .before .before .before .before .before .before .before .args .at)) (now (c .before .before .before .before .before .before .before .before .before .args .t)) (c .before .before .loop .n) (c .before .before .loop .n) (c .before .before .loop .k) (c .before .before .loop .last) (c .before .before .loop .p) (c .before .before .loop .at) (c .before .before .loop .t) (c .before .before .loop .inv .0) (c .before .before .before .before .before .before .before .before .before .args .spot) (behind-first (now (c .before .before .before .before .before .before .before .before .before .args .s)) (c .before .before .before .before .before .before .before .before .before .args .spot .p) (c .before .before .before .before .before .before .before .before .before .args .spot .last) (c .before .before .before .before .before .before .before .before .before .args .spot .x) (now (c .before .before .before .before .before .before .before .before .before .args .at)) (c .before .before .before .before .before .before .before .before .before .pre .turn .between) (let w = c .before .before .before .if1 .left in omega arith))), record { low = λ h. w .1; first = λ e. absurd (omega (arith, w .0, e)); no-init = λ e. ended (now (c .before .before .before .before .before .before .before .before .before .args .s)) (c .before .before .loop .p) _ (c .before .loop-test .left) })
 
 pub inits-spec : {M : Type 1} → statement M
 inits-spec =

@@ -7,6 +7,7 @@
 --     PlainRow, PlainRowPut         the field at p is a row without a fault, behind an event or a row; it has been taken
 --     KnownRow                      what its first tests say
 --     Growing, Rowing               the loops over events and over rows
+--     BeginLeft to RowsLeft         what each step leaves
 -- Assumes nothing.
 use mathlib.Core.Path.{_≡_}
 use mathlib.Core.Bool.{Bool, true, false}
@@ -26,10 +27,11 @@ use Rattle.spot.specs.declared.Spot.{Spot}
 use Rattle.content.specs.Content.{within, kindFits, standsFirst}
 use Rattle.entries.specs.declared.Counts.{Counts}
 use Rattle.entries.specs.Entries.{eventAt, eventsIn}
-use Rattle.faults.specs.Faults.{faultIn, PlainEvent, initTest}
+use Rattle.faults.specs.Faults.{faultIn, PlainEvent, headTest, initTest}
 use Rattle.tables.specs.Tables.{rowRoom}
 use Rattle.row_data.specs.RowData.{rowPut}
 use Rattle.lay.specs.Lay.{eventPut}
+use Rattle.plain.specs.Fields.{initNext, otherNext, rowNext}
 use Rattle.spot.specs.Between.{blankCounts, Turn, tallyWith, Tallied, Stands, Carried, Shaped, behind, withRows}
 
 -- before the first field
@@ -99,3 +101,27 @@ pub record Rowing (s : List ℕ) (x : Counts) (at t : List ℕ) (k : Tally) (n�
   pub shaped : Shaped s x at t
   pub carried : Carried s (withRows x n₀ p₀) at t q₀ (withRows x n p) at t q
   pub size : length q ≡ length q₀
+
+-- ---- what each step leaves
+
+pub record BeginLeft (s : List ℕ) (to : Spot) : Type 0 where
+  pub low : to .last ≤ 1
+  pub no-head : to .last ≡ 0 → headTest s ≡ false
+
+pub record InitsLeft (s : List ℕ) (from to : Spot) (at′ : List ℕ) : Type 0 where
+  pub low : from .last ≤ 1 → to .last ≤ 2
+  pub first : to .last ≡ 0 → from .last ≡ 0
+  pub no-init : to .last ≡ 1 → initNext s (to .p) (to .x) at′ ≡ false
+
+-- behind a head alone nothing was taken
+pub record EventsLeft (s : List ℕ) (from : Spot) (at : List ℕ) (to : Spot) (at′ : List ℕ) : Type 0 where
+  pub low : from .last ≤ 2 → to .last ≤ 2
+  pub first : to .last ≡ 0 → from .last ≡ 0
+  pub kept : to .last ≡ 1 → (from .last ≡ 1) × (initNext s (to .p) (to .x) at′ ≡ initNext s (from .p) (from .x) at)
+  pub no-other : within 1 2 (to .last) ≡ true → otherNext s (to .p) (to .x) ≡ false
+
+-- behind an event nothing was taken
+pub record RowsLeft (s t : List ℕ) (from to : Spot) : Type 0 where
+  pub early : to .last < 2 → to ≡ from
+  pub kept : to .last ≡ 2 → (from .last ≡ 2) × (otherNext s (to .p) (to .x) ≡ otherNext s (from .p) (from .x))
+  pub no-row : 2 ≤ to .last → from .last ≤ 2 → rowNext s (to .p) (to .x) t ≡ false

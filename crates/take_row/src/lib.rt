@@ -35,7 +35,7 @@ fn seen_at(s: &[u8], edition: u8, p: u16, a: Shape, n: u8) -> u8
     field::byte(s, p as usize + front + (n - a.start) as usize)
 }
 
-// How much of its data stands before what an access wrote; without a jump, as above.
+// How much of its data stands before what an access wrote. Without a jump: whether an event reads and writes is hard to foresee.
 fn passed(a: Shape) -> u16
     ensures { λ r. ⌜ (r ≡ passed a) × (r ≤ 255) ⌝ }
 {

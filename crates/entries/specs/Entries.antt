@@ -22,7 +22,7 @@ spaced f gap p zero = []
 spaced f gap p (suc n) = f p ∷ spaced f gap (p + gap) n
 
 -- the event, the row, the pair of the field at p: what its first bytes say, so that no length is asked for; where the lengths are right, which the
--- reader has tested, it is what the field's value says (crates/sheet/proofs/TakenLaws.antt)
+-- reader has tested, it is what the field's value says (crates/spot/proofs/TakenLaws.antt)
 abbrev pub eventAt : List ℕ → ℕ → ℕ → Event
 eventAt s edition p = eventOf edition (restAt s p)
 

@@ -24,7 +24,8 @@ use Rattle.entries.specs.Entries.{execution}
 use Rattle.entries.proofs.EntriesLaws.{events-count, rows-count, pairs-count}
 use Rattle.tables.specs.Tables.{rowRoom}
 use Rattle.lay.specs.Lay.{eventsPut, rowsPut}
-use Rattle.sheet.specs.Handed.{blankPlaces, Laid, HandedAs, Handed}
+use Rattle.spot.specs.Between.{blankPlaces}
+use Rattle.sheet.specs.Handed.{Laid, HandedAs, Handed}
 use Rattle.sheet.specs.Filled.{FilledWhole, FilledAs, Filled}
 
 -- the same fields, the same struct

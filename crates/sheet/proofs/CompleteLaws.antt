@@ -24,7 +24,8 @@ use Rattle.lay.specs.Lay.{eventsPut, rowsPut}
 use Rattle.sheet.specs.declared.Read.{Read}
 use Rattle.sheet.specs.Handed.{Laid, HandedWhole}
 use Rattle.sheet.specs.Filled.{Filled, FilledWhole}
-use Rattle.sheet.specs.steps.Between.{Through, Tabled, refusal}
+use Rattle.spot.specs.Between.{Through, Tabled}
+use Rattle.sheet.specs.steps.Scanned.{refusal}
 
 -- what a whole sheet's counts and places are
 pub laid-of : (s : List ℕ) (last : ℕ) (x : Counts) (at : List ℕ) → Through s last x at → (last ≡ 0 → ⊥) → Laid s x at

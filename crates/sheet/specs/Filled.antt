@@ -13,7 +13,8 @@ use Rattle.parse.specs.Parse.{refused, parse}
 use Rattle.entries.specs.declared.Counts.{Counts}
 use Rattle.tables.specs.Tables.{rowRoom}
 use Rattle.lay.specs.Lay.{eventsPut, rowsPut}
-use Rattle.sheet.specs.Handed.{blankCounts, HandedWhole}
+use Rattle.spot.specs.Between.{blankCounts}
+use Rattle.sheet.specs.Handed.{HandedWhole}
 
 -- of the places and the tables nothing is said: they are lent
 pub record FilledRefusal (s : List ℕ) (n p : ℕ) (x : Counts) : Type 0 where

@@ -12,11 +12,12 @@ use Rattle.sheet.specs.declared.Outcome.{Outcome}
 use Rattle.sheet.specs.declared.Reading.{Reading}
 use Rattle.sheet.specs.declared.Reading.the-variants.{Refused, Whole}
 use Rattle.sets.specs.Mask.{slots}
-use Rattle.format.specs.Execution.{inits, noHead}
+use Rattle.format.specs.Execution.{inits}
 use Rattle.format.specs.Field.{fieldPlace}
 use Rattle.parse.specs.Parse.{refused, whole, parse}
 use Rattle.entries.specs.declared.Counts.{Counts}
 use Rattle.entries.specs.Entries.{eventsIn, execution}
+use Rattle.spot.specs.Between.{blankCounts, blankPlaces}
 
 -- the head is field 0, event e is field 1 + e, and rows and pairs follow; places that no event uses are 0
 pub record Laid (s : List ℕ) (x : Counts) (at : List ℕ) : Type 0 where
@@ -27,13 +28,6 @@ pub record Laid (s : List ℕ) (x : Counts) (at : List ℕ) : Type 0 where
   pub unused : drop (x .events) at ≡ replicate (slots - x .events) 0
   pub rows-at : x .«rows_at» ≡ fieldPlace s (suc (x .events))
   pub pairs-at : x .«pairs_at» ≡ fieldPlace s (suc (x .events + x .rows))
-
--- what stands beside a refusal
-abbrev pub blankCounts : Counts
-blankCounts = record { head = noHead; inits = 0; events = 0; «rows_at» = 0; rows = 0; «pairs_at» = 0; pairs = 0 }
-
-abbrev pub blankPlaces : List ℕ
-blankPlaces = replicate slots 0
 
 pub record HandedRefusal (s : List ℕ) (n p : ℕ) (x : Counts) (at : List ℕ) : Type 0 where
   pub says : parse s ≡ refused n p

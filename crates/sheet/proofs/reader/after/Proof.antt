@@ -1,11 +1,14 @@
 -- `sheet::reader::after` meets its contract: a field taken, by its tag; the tests of the field leave no other. Assumes nothing.
-use mathlib.Core.Path.{_≡_, refl, sym, ap, _∙_, subst}
-use mathlib.Core.List.{List}
+use mathlib.Core.Path.{_≡_, sym, _∙_}
+use Prim.Native.Nat.{_%_}
+use native.Mathlib.Nat.{mod-eq-of-lt}
+use native.Mathlib.Omega.{arith}
 use denote.Ref.{now}
+use Rattle.sets.specs.Mask.{slots}
 use Rattle.parse.proofs.ParseLaws.{known}
 use Rattle.faults.specs.Faults.{view}
-use Rattle.sheet.proofs.BetweenLaws.{ready-next, event-few, row-few, pair-few, head-taken, event-taken, row-taken, pair-taken}
-use Rattle.sheet.proofs.TabledLaws.{event-laid, after-head, after-event, tabled-row, tabled-pair}
+use Rattle.spot.proofs.BetweenLaws.{ready-next, event-few, row-few, pair-few, head-taken, event-taken, row-taken, pair-taken}
+use Rattle.spot.proofs.TabledLaws.{event-laid, after-head, after-event, tabled-row, tabled-pair}
 use borrow.Author.Needs.{needs}
 use Rattle.sheet.proofs.reader.after.Statement.{statement}
 use Rattle.sheet.proofs.reader.after.Tie as tie
@@ -14,7 +17,10 @@ byte-requires : tie.Need-byte-requires
 byte-requires c κs = search needs
 
 next-at-requires : tie.Need-next-at-requires
-next-at-requires c κs = ready-next (now (c .before .before .before .before .before .args .s)) (c .before .before .before .before .before .args .p) (c .before .before .before .before .before .args .last) (c .before .before .before .before .before .args .x) (now (c .before .before .before .before .before .args .at)) (c .before .before .before .before .before .pre)
+next-at-requires c κs = search needs
+
+cast-next : tie.Need-cast-next
+cast-next c = let r = ready-next (now (c .before .before .before .before .before .before .args .s)) (c .before .before .before .before .before .before .args .p) (c .before .before .before .before .before .before .args .last) (c .before .before .before .before .before .before .args .x) (now (c .before .before .before .before .before .before .args .at)) (c .before .before .before .before .before .before .pre) in let e = c .next-at .ensures in omega arith
 
 value-at-requires : tie.Need-value-at-requires
 value-at-requires c κs = search needs
@@ -25,8 +31,8 @@ byte-requires-2 c κs = search needs
 head-of-requires : tie.Need-head-of-requires
 head-of-requires c κs = search needs
 
-with-head-requires : tie.Need-with-head-requires
-with-head-requires c κs = search needs
+behind-requires : tie.Need-behind-requires
+behind-requires c κs = search needs
 
 agent-at-requires : tie.Need-agent-at-requires
 agent-at-requires c κs = search needs
@@ -53,7 +59,7 @@ with-pair-requires : tie.Need-with-pair-requires
 with-pair-requires c κs = pair-few (now (c .before .before .before .before .before .before .before .before .args .s)) (c .before .before .before .before .before .before .before .before .args .p) (c .before .before .before .before .before .before .before .before .args .last) (c .before .before .before .before .before .before .before .before .args .x) (now (c .before .before .before .before .before .before .before .before .args .at)) (c .before .before .before .before .before .before .before .before .pre)
 
 returns : tie.Need-returns
-returns c = (simp (c .with-head .ensures, c .before .head-of .ensures, c .before .before .byte2 .ensures, c .before .before .before .before .value-at .ensures, c .before .before .before .before .before .next-at .ensures) (head-taken (now (c .before .before .before .before .before .before .before .before .before .before .before .args .s)) (c .before .before .before .before .before .before .before .before .before .before .before .args .p) (c .before .before .before .before .before .before .before .before .before .before .before .args .last) (c .before .before .before .before .before .before .before .before .before .before .before .args .x) (now (c .before .before .before .before .before .before .before .before .before .before .before .args .at)) (c .before .before .before .before .before .before .before .before .before .before .before .pre) (sym (c .before .before .before .before .before .before .byte .ensures) ∙ c .before .before .before .match .keys1)), rw (c .with-head .ensures) (after-head (now (c .before .before .before .before .before .before .before .before .before .before .before .args .s)) (c .before .before .before .before .before .before .before .before .before .before .before .args .p) (c .before .before .before .before .before .before .before .before .before .before .before .args .last) (c .before .before .before .before .before .before .before .before .before .before .before .args .x) (now (c .before .before .before .before .before .before .before .before .before .before .before .args .at)) (c .before .before .before .before .before .before .before .before .before .before .before .pre) (sym (c .before .before .before .before .before .before .byte .ensures) ∙ c .before .before .before .match .keys1) (c .before .head-of .result) (c .before .before .before .before .before .next-at .result) (now (c .before .before .before .before .before .before .before .before .before .before .before .args .t)) (now (c .before .before .before .before .before .before .before .before .before .before .before .args .q))))
+returns c = (simp (c .behind .ensures, c .before .head-of .ensures, c .before .before .byte2 .ensures, c .before .before .before .before .value-at .ensures, c .before .before .before .before .before .next-at .ensures) (head-taken (now (c .before .before .before .before .before .before .before .before .before .before .before .args .s)) (c .before .before .before .before .before .before .before .before .before .before .before .args .p) (c .before .before .before .before .before .before .before .before .before .before .before .args .last) (c .before .before .before .before .before .before .before .before .before .before .before .args .x) (now (c .before .before .before .before .before .before .before .before .before .before .before .args .at)) (c .before .before .before .before .before .before .before .before .before .before .before .pre) (sym (c .before .before .before .before .before .before .byte .ensures) ∙ c .before .before .before .match .keys1)), rw (c .behind .ensures) (after-head (now (c .before .before .before .before .before .before .before .before .before .before .before .args .s)) (c .before .before .before .before .before .before .before .before .before .before .before .args .p) (c .before .before .before .before .before .before .before .before .before .before .before .args .last) (c .before .before .before .before .before .before .before .before .before .before .before .args .x) (now (c .before .before .before .before .before .before .before .before .before .before .before .args .at)) (c .before .before .before .before .before .before .before .before .before .before .before .pre) (sym (c .before .before .before .before .before .before .byte .ensures) ∙ c .before .before .before .match .keys1) (c .before .head-of .result) (c .before .before .before .before .before .next-at .result) (now (c .before .before .before .before .before .before .before .before .before .before .before .args .t)) (now (c .before .before .before .before .before .before .before .before .before .before .before .args .q))))
 
 same-length : tie.Need-same-length
 same-length c = search needs
@@ -62,7 +68,10 @@ same-length-2 : tie.Need-same-length-2
 same-length-2 c = search needs
 
 returns-2 : tie.Need-returns-2
-returns-2 c = (simp (c .before .before .before .before .before .before .lay-event .ensures .0, c .with-event .ensures, c .before .byte3 .ensures, c .before .before .before .before .before .before .before .before .before .before .before .before .value-at .ensures, c .before .before .before .before .before .before .before .before .before .before .before .before .before .next-at .ensures) (event-taken (now (c .before .before .before .before .before .before .before .before .before .before .before .before .before .before .before .before .before .before .before .args .s)) (c .before .before .before .before .before .before .before .before .before .before .before .before .before .before .before .before .before .before .before .args .p) (c .before .before .before .before .before .before .before .before .before .before .before .before .before .before .before .before .before .before .before .args .last) (c .before .before .before .before .before .before .before .before .before .before .before .before .before .before .before .before .before .before .before .args .x) (now (c .before .before .before .before .before .before .before .before .before .before .before .before .before .before .before .before .before .before .before .args .at)) (c .before .before .before .before .before .before .before .before .before .before .before .before .before .before .before .before .before .before .before .pre) (sym (c .before .before .before .before .before .before .before .before .before .before .before .before .before .before .byte .ensures) ∙ c .before .before .before .before .before .before .before .before .before .before .before .match .keys2)), rw (c .before .before .before .before .before .before .lay-event .ensures .0, c .with-event .ensures) (after-event (now (c .before .before .before .before .before .before .before .before .before .before .before .before .before .before .before .before .before .before .before .args .s)) (c .before .before .before .before .before .before .before .before .before .before .before .before .before .before .before .before .before .before .before .args .p) (c .before .before .before .before .before .before .before .before .before .before .before .before .before .before .before .before .before .before .before .args .last) (c .before .before .before .before .before .before .before .before .before .before .before .before .before .before .before .before .before .before .before .args .x) (now (c .before .before .before .before .before .before .before .before .before .before .before .before .before .before .before .before .before .before .before .args .at)) (c .before .before .before .before .before .before .before .before .before .before .before .before .before .before .before .before .before .before .before .pre) (sym (c .before .before .before .before .before .before .before .before .before .before .before .before .before .before .byte .ensures) ∙ c .before .before .before .before .before .before .before .before .before .before .before .match .keys2) (c .before .byte3 .result) (c .before .before .before .before .before .before .before .before .before .before .before .before .before .next-at .result) (now (c .before .before .before .before .before .before .before .before .before .before .before .before .before .before .before .before .before .before .before .args .t)) _ (now (c .before .before .before .before .before .before .before .before .before .before .before .before .before .before .before .before .before .before .before .args .q)) (event-laid (now (c .before .before .before .before .before .before .before .before .before .before .before .before .before .before .before .before .before .before .before .args .s)) (c .before .before .before .before .before .before .before .before .before .before .before .before .before .before .before .before .before .before .before .args .x .head .edition) (c .before .before .before .before .before .before .before .before .before .before .before .before .before .before .before .before .before .before .before .args .p) (c .before .before .before .before .before .before .before .before .before .before .before .before .before .before .before .before .before .before .before .args .x .events) (now (c .before .before .before .before .before .before .before .before .before .before .before .before .before .before .before .before .before .before .before .args .t)) _ (c .before .before .before .before .before .before .before .before .before .before .agent-at .result) (c .before .before .before .before .before .before .before .before .before .shape-at .result) (c .before .before .before .before .before .before .lay-event .ensures .1) (c .before .before .before .before .before .before .before .before .before .before .agent-at .ensures) (c .before .before .before .before .before .before .before .before .before .shape-at .ensures))))
+returns-2 c =
+    let n : c .before .before .before .before .before .before .before .before .before .before .before .before .before .before .before .before .before .before .before .args .x .events % slots ≡ c .before .before .before .before .before .before .before .before .before .before .before .before .before .before .before .before .before .before .before .args .x .events = mod-eq-of-lt (event-few (now (c .before .before .before .before .before .before .before .before .before .before .before .before .before .before .before .before .before .before .before .args .s)) (c .before .before .before .before .before .before .before .before .before .before .before .before .before .before .before .before .before .before .before .args .p) (c .before .before .before .before .before .before .before .before .before .before .before .before .before .before .before .before .before .before .before .args .last) (c .before .before .before .before .before .before .before .before .before .before .before .before .before .before .before .before .before .before .before .args .x) (now (c .before .before .before .before .before .before .before .before .before .before .before .before .before .before .before .before .before .before .before .args .at)) (c .before .before .before .before .before .before .before .before .before .before .before .before .before .before .before .before .before .before .before .pre) (sym (c .before .before .before .before .before .before .before .before .before .before .before .before .before .before .byte .ensures) ∙ c .before .before .before .before .before .before .before .before .before .before .before .match .keys2) .0) in
+    let l = rw n at (c .before .before .before .before .before .before .lay-event .ensures) in
+    (simp (l .0, c .with-event .ensures, c .before .byte3 .ensures, c .before .before .before .before .before .before .before .before .before .before .before .before .value-at .ensures, c .before .before .before .before .before .before .before .before .before .before .before .before .before .next-at .ensures) (event-taken (now (c .before .before .before .before .before .before .before .before .before .before .before .before .before .before .before .before .before .before .before .args .s)) (c .before .before .before .before .before .before .before .before .before .before .before .before .before .before .before .before .before .before .before .args .p) (c .before .before .before .before .before .before .before .before .before .before .before .before .before .before .before .before .before .before .before .args .last) (c .before .before .before .before .before .before .before .before .before .before .before .before .before .before .before .before .before .before .before .args .x) (now (c .before .before .before .before .before .before .before .before .before .before .before .before .before .before .before .before .before .before .before .args .at)) (c .before .before .before .before .before .before .before .before .before .before .before .before .before .before .before .before .before .before .before .pre) (sym (c .before .before .before .before .before .before .before .before .before .before .before .before .before .before .byte .ensures) ∙ c .before .before .before .before .before .before .before .before .before .before .before .match .keys2)), rw (l .0, c .with-event .ensures) (after-event (now (c .before .before .before .before .before .before .before .before .before .before .before .before .before .before .before .before .before .before .before .args .s)) (c .before .before .before .before .before .before .before .before .before .before .before .before .before .before .before .before .before .before .before .args .p) (c .before .before .before .before .before .before .before .before .before .before .before .before .before .before .before .before .before .before .before .args .last) (c .before .before .before .before .before .before .before .before .before .before .before .before .before .before .before .before .before .before .before .args .x) (now (c .before .before .before .before .before .before .before .before .before .before .before .before .before .before .before .before .before .before .before .args .at)) (c .before .before .before .before .before .before .before .before .before .before .before .before .before .before .before .before .before .before .before .pre) (sym (c .before .before .before .before .before .before .before .before .before .before .before .before .before .before .byte .ensures) ∙ c .before .before .before .before .before .before .before .before .before .before .before .match .keys2) (c .before .byte3 .result) (c .before .before .before .before .before .before .before .before .before .before .before .before .before .next-at .result) (now (c .before .before .before .before .before .before .before .before .before .before .before .before .before .before .before .before .before .before .before .args .t)) _ (now (c .before .before .before .before .before .before .before .before .before .before .before .before .before .before .before .before .before .before .before .args .q)) (event-laid (now (c .before .before .before .before .before .before .before .before .before .before .before .before .before .before .before .before .before .before .before .args .s)) (c .before .before .before .before .before .before .before .before .before .before .before .before .before .before .before .before .before .before .before .args .x .head .edition) (c .before .before .before .before .before .before .before .before .before .before .before .before .before .before .before .before .before .before .before .args .p) (c .before .before .before .before .before .before .before .before .before .before .before .before .before .before .before .before .before .before .before .args .x .events) (now (c .before .before .before .before .before .before .before .before .before .before .before .before .before .before .before .before .before .before .before .args .t)) _ (c .before .before .before .before .before .before .before .before .before .before .agent-at .result) (c .before .before .before .before .before .before .before .before .before .shape-at .result) (l .1) (c .before .before .before .before .before .before .before .before .before .before .agent-at .ensures) (c .before .before .before .before .before .before .before .before .before .shape-at .ensures))))
 
 same-length-3 : tie.Need-same-length-3
 same-length-3 c = search needs
@@ -88,10 +97,11 @@ after-spec =
     (tie.spec
     byte-requires
     next-at-requires
+    cast-next
     value-at-requires
     byte-requires-2
     head-of-requires
-    with-head-requires
+    behind-requires
     agent-at-requires
     shape-at-requires
     lay-event-requires

@@ -1,5 +1,5 @@
 -- `sheet::reader::fill` meets its contract: a sheet too long, a field at fault, a test after all fields, or a whole sheet. Assumes nothing.
-use mathlib.Core.Path.{refl, sym, _∙_}
+use mathlib.Core.Path.{sym, _∙_}
 use denote.Ref.{now}
 use Rattle.parse.proofs.ParseLaws.{too-long}
 use Rattle.sheet.proofs.CompleteLaws.{read-refusal, read-whole}
@@ -12,9 +12,6 @@ refuse-requires c κs = search needs
 
 returns : tie.Need-returns
 returns c = read-refusal (now (c .before .before .before .args .s)) 1 0 (c .refuse .result) (c .refuse .ensures) (too-long (now (c .before .before .before .args .s)) (c .before .if1 .taken)) _ _ _ _ _
-
-clear-requires : tie.Need-clear-requires
-clear-requires c κs = search needs
 
 fields-requires : tie.Need-fields-requires
 fields-requires c κs = search needs
@@ -41,13 +38,13 @@ enum-told : tie.Need-enum-told
 enum-told c = search needs
 
 returns-2 : tie.Need-returns-2
-returns-2 c = read-refusal (now (c .before .before .before .before .before .before .before .before .before .before .before .before .args .s)) _ _ (c .refuse2 .result) (c .refuse2 .ensures) (rw (c .before .before .scan .given .1) at (c .before .before .before .before .fields .ensures)) _ _ _ _ _
+returns-2 c = read-refusal (now (c .before .before .before .before .before .before .before .before .before .before .args .s)) _ _ (c .refuse2 .result) (c .refuse2 .ensures) (rw (c .before .before .scan .given .1) at (c .before .before .before .before .fields .ensures)) _ _ _ _ _
 
 returns-3 : tie.Need-returns-3
-returns-3 c = read-refusal (now (c .before .before .before .before .before .before .before .before .before .before .before .before .before .before .before .before .before .before .args .s)) _ _ (c .refuse3 .result) (c .refuse3 .ensures) ((rw (c .before .before .before .before .before .before .before .before .scan2 .given .1) at (c .before .before .before .before .before .before .before .before .before .before .fields .ensures)) .0 .goes ∙ sym (rw (c .before .before .reading .given .1) at (c .before .before .before .before .finish .ensures))) _ _ _ _ _
+returns-3 c = read-refusal (now (c .before .before .before .before .before .before .before .before .before .before .before .before .before .before .before .before .args .s)) _ _ (c .refuse3 .result) (c .refuse3 .ensures) ((rw (c .before .before .before .before .before .before .before .before .scan2 .given .1) at (c .before .before .before .before .before .before .before .before .before .before .fields .ensures)) .0 .goes ∙ sym (rw (c .before .before .reading .given .1) at (c .before .before .before .before .finish .ensures))) _ _ _ _ _
 
 returns-4 : tie.Need-returns-4
-returns-4 c = let h = (rw (c .before .before .before .before .before .before .scan2 .given .1) at (c .before .before .before .before .before .before .before .before .fields .ensures)) in read-whole (now (c .before .before .before .before .before .before .before .before .before .before .before .before .before .before .before .before .args .s)) _ _ _ _ _ _ _ (h .0) (h .2) (rw (c .enum-told .given .1) at (c .before .before .finish .ensures))
+returns-4 c = let h = (rw (c .before .before .before .before .before .before .scan2 .given .1) at (c .before .before .before .before .before .before .before .before .fields .ensures)) in read-whole (now (c .before .before .before .before .before .before .before .before .before .before .before .before .before .before .args .s)) _ _ _ _ _ _ _ (h .0) (h .2) (rw (c .enum-told .given .1) at (c .before .before .finish .ensures))
 
 pub fill-spec : {M : Type 1} → statement M
 fill-spec =
@@ -55,7 +52,6 @@ fill-spec =
     (tie.spec
     refuse-requires
     returns
-    clear-requires
     fields-requires
     enum-known-scan
     refuse-requires-2

@@ -6,7 +6,7 @@ use native.Mathlib.Omega.{arith}
 use Rattle.basis.specs.Test.{non}
 use Rattle.parse.specs.Parse.{lowestLacking, completed, finish}
 use Rattle.entries.specs.Entries.{execution}
-use Rattle.sheet.proofs.BetweenLaws.{counted-of}
+use Rattle.spot.proofs.BetweenLaws.{counted-of}
 use Rattle.sheet.proofs.CompleteLaws.{place-found}
 use borrow.Author.Needs.{needs}
 use Rattle.sheet.proofs.reader.finish.Statement.{statement}

@@ -1,7 +1,7 @@
 -- `sheet::reader::lack` meets its contract: as many rows as read bytes, or the search. Assumes nothing.
 use mathlib.Core.Path.{sym}
 use denote.Ref.{now}
-use Rattle.sheet.proofs.TallyLaws.{told-none-lacking}
+use Rattle.spot.proofs.TallyLaws.{told-none-lacking}
 use borrow.Author.Needs.{needs}
 use Rattle.sheet.proofs.reader.lack.Statement.{statement}
 use Rattle.sheet.proofs.reader.lack.Tie as tie

@@ -1,7 +1,7 @@
 -- `sheet::reader::missing` meets its contract: by the set of agents where it holds all that can be promised, or the search. Assumes nothing.
 use denote.Ref.{now}
 use Rattle.entries.specs.Entries.{execution}
-use Rattle.sheet.proofs.TallyLaws.{told-missing}
+use Rattle.spot.proofs.TallyLaws.{told-missing}
 use borrow.Author.Needs.{needs}
 use Rattle.sheet.proofs.reader.missing.Statement.{statement}
 use Rattle.sheet.proofs.reader.missing.Tie as tie

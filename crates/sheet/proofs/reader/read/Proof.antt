@@ -1,6 +1,5 @@
 -- `sheet::reader::read` meets its contract: what `fill` reads, with places that are blank beside a refusal. Assumes nothing.
 use mathlib.Core.Path.{refl}
-use denote.Ref.{now}
 use borrow.Author.Needs.{needs}
 use Rattle.sheet.proofs.reader.read.Statement.{statement}
 use Rattle.sheet.proofs.reader.read.Tie as tie

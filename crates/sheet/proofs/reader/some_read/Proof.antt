@@ -1,7 +1,7 @@
 -- `sheet::reader::some_read` meets its contract: where bytes are read, some event reads; else the search. Assumes nothing.
 use denote.Ref.{now}
 use Rattle.entries.specs.Entries.{eventsIn}
-use Rattle.sheet.proofs.TallyLaws.{told-some}
+use Rattle.spot.proofs.TallyLaws.{told-some}
 use borrow.Author.Needs.{needs}
 use Rattle.sheet.proofs.reader.some_read.Statement.{statement}
 use Rattle.sheet.proofs.reader.some_read.Tie as tie

@@ -1,7 +1,7 @@
 -- `sheet::reader::tallied` meets its contract: the bytes and the agent of the event. Assumes nothing.
 use denote.Ref.{now}
 use native.Mathlib.Omega.{arith}
-use Rattle.sheet.proofs.TallyLaws.{tally-made}
+use Rattle.spot.proofs.TallyLaws.{tally-made}
 use borrow.Author.Needs.{needs}
 use Rattle.sheet.proofs.reader.tallied.Statement.{statement}
 use Rattle.sheet.proofs.reader.tallied.Tie as tie

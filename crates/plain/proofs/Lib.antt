@@ -1,0 +1,3 @@
+pub mod PlainLaws
+pub mod GrowingLaws
+pub mod LinedLaws

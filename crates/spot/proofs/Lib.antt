@@ -1,0 +1,4 @@
+pub mod TakenLaws
+pub mod BetweenLaws
+pub mod TallyLaws
+pub mod TabledLaws

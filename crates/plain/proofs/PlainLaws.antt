@@ -119,7 +119,7 @@ module _ (s : List ℕ) (p last : ℕ) (x : Counts) (at : List ℕ) (t : Turn s 
 module _ (s : List ℕ) (p : ℕ) (x : Counts) (e : x .«rows_at» + x .rows * rowGap (x .head .edition) ≡ p) (r : Row) where
   rises-first : x .rows ≡ 0 → riseTest s p x r ≡ rowRises (rowsIn s x) r
   unfolding rowRises _or_ rowBytes
-  rises-first z = sym (rise-first s p x r (omega arith)) ∙ simp (rows-count, z)
+  rises-first z = sym (rise-first s p x r z) ∙ simp (rows-count, z)
 
   back : (x .rows ≡ 0 → ⊥) → x .«rows_at» + (x .rows - 1) * rowGap (x .head .edition) + 3 ≡ p - 3
   unfolding rowBytes
@@ -129,7 +129,7 @@ module _ (s : List ℕ) (p : ℕ) (x : Counts) (e : x .«rows_at» + x .rows * r
   unfolding rowRises rowBytes _or_
   rises-then z =
       let j : x .rows - 1 < x .rows = omega arith in
-      sym (rise-then s p x r (omega arith))
+      sym (rise-then s p x r z (omega arith))
       ∙ simp (rows-count, ne-eqb _ _ z, row-at s (x .head .edition) (x .«rows_at») (x .rows) (x .rows - 1) j)
       (ap (λ (k : ℕ). rowBelow (rowOf (x .head .edition) (drop k s)) r) (sym (back z)))
 

@@ -1,6 +1,7 @@
 -- What is handed over, by the way that it came. Assumes nothing.
 --     laid-of                       a whole sheet's counts and places
 --     place-found                   the place of the event that lacks a row
+--     scanned-fault, scanned-end    the fields up to a fault, and through
 --     read-refusal, read-whole      what is read
 use Prim.Native.Nat.{ℕ, _<_, min}
 use mathlib.Core.Path.{_≡_, refl, sym, ap, _∙_}
@@ -15,17 +16,19 @@ use Rattle.parse.proofs.ParseLaws.{finished-whole}
 use Rattle.parse.proofs.PromiseLaws.{promise}
 use Rattle.parse.proofs.CountLaws.{rows-few}
 use Rattle.entries.specs.declared.Counts.{Counts}
-use Rattle.entries.specs.Entries.{execution}
+use Rattle.entries.specs.Entries.{eventsIn, execution}
 use Rattle.entries.proofs.EntriesLaws.{events-count, rows-count}
 use Rattle.faults.specs.Faults.{view, Counted}
 use Rattle.sets.specs.Mask.{slots}
 use Rattle.tables.specs.Tables.{rowRoom}
 use Rattle.lay.specs.Lay.{eventsPut, rowsPut}
+use Rattle.sheet.specs.declared.Scan.{Scan}
 use Rattle.sheet.specs.declared.Read.{Read}
 use Rattle.sheet.specs.Handed.{Laid, HandedWhole}
 use Rattle.sheet.specs.Filled.{Filled, FilledWhole}
-use Rattle.spot.specs.Between.{Through, Tabled}
-use Rattle.sheet.specs.steps.Scanned.{refusal}
+use Rattle.spot.specs.declared.Tally.{Tally}
+use Rattle.spot.specs.Between.{Through, Tallied, Tabled}
+use Rattle.sheet.specs.steps.Scanned.{Scanned, refusal}
 
 -- what a whole sheet's counts and places are
 pub laid-of : (s : List ℕ) (last : ℕ) (x : Counts) (at : List ℕ) → Through s last x at → (last ≡ 0 → ⊥) → Laid s x at
@@ -49,6 +52,14 @@ place-found s last x at e k l =
     ap (λ (p : ℕ). refused 11 (placeOf 11 p)) (getD-take (x .events) at e 0 (omega arith))
 
 -- what is read, by the way that it came
+module _ (s t q : List ℕ) (last : ℕ) (x : Counts) (k : Tally) (at t′ q′ : List ℕ) where
+  pub scanned-fault : (n p : ℕ) → (n ≡ 0 → ⊥) → parse s ≡ refused n p → Scanned s t q (record { number = n; place = p; last = last; x = x; t = k }) at t′ q′
+  scanned-fault n p d h = record { fault = λ z. h; through = λ e. absurd (d e); tallied = λ e. absurd (d e); tabled = λ e. absurd (d e) }
+
+  pub scanned-end : (p : ℕ) → Through s last x at → Tallied (eventsIn s x at) k → Tabled s x at t t′ q q′
+      → Scanned s t q (record { number = 0; place = p; last = last; x = x; t = k }) at t′ q′
+  scanned-end p h i j = record { fault = λ z. absurd (z refl); through = λ e. h; tallied = λ e. i; tabled = λ e. j }
+
 pub read-refusal : (s : List ℕ) (n p : ℕ) (r : Read) → r ≡ refusal n p → parse s ≡ refused n p → (at t t′ q q′ : List ℕ) → Filled s r at t t′ q q′
 read-refusal s n p r e h at t t′ q q′ = rw e (record { says = h; no-counts = refl })
 

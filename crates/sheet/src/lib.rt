@@ -11,10 +11,14 @@ pub enum Reading {
     Whole,
 }
 
-// How far the fields go: to a fault, by number and place, or to the end, with the last tag.
-pub enum Scan {
-    Stopped(u8, u32),
-    Ended(u8, Counts, Tally),
+// How far the fields go: to a fault, by number and place, or to the end, where the number is 0; with the last tag, the counts and the tally. No enum: of
+// one whose cases lie over each other the compiler keeps the counts in memory.
+pub struct Scan {
+    pub number: u8,
+    pub place: u32,
+    pub last: u8,
+    pub x: Counts,
+    pub t: Tally,
 }
 
 // The reader's outcome: the sheet's counts, and the place of each event's tag.

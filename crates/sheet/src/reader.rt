@@ -167,7 +167,13 @@ fn fields(s: &[u8], at: &mut [u16; SLOTS], t: &mut [u8; COLUMNS], q: &mut [u8]) 
     while (p as usize) < s.len() {
         let n = faults::fault_at(s, p, last, x, at);
         if n != 0 {
-            return Scan::Stopped(n, faults::place_of(n, p));
+            return Scan {
+                number: n,
+                place: faults::place_of(n, p),
+                last: last,
+                x: x,
+                t: k,
+            };
         }
         let next = spot::next_at(s, p) as u16;
         k = tally_after(s, p, k);
@@ -175,7 +181,13 @@ fn fields(s: &[u8], at: &mut [u16; SLOTS], t: &mut [u8; COLUMNS], q: &mut [u8]) 
         last = field::byte(s, p as usize);
         p = next;
     }
-    Scan::Ended(last, x, k)
+    Scan {
+        number: 0,
+        place: 0,
+        last: last,
+        x: x,
+        t: k,
+    }
 }
 
 // ---- after all fields
@@ -256,18 +268,17 @@ pub fn fill(s: &[u8], at: &mut [u16; SLOTS], t: &mut [u8; COLUMNS], q: &mut [u8;
         return refuse(1, 0);
     }
     let scan = fields(s, at, t, q);
-    match scan {
-        Scan::Stopped(n, p) => refuse(n, p),
-        Scan::Ended(last, x, k) => {
-            let reading = finish(s, last, x, at, k);
-            match reading {
-                Reading::Refused(n, p) => refuse(n, p),
-                Reading::Whole => Read {
-                    reading: Reading::Whole,
-                    counts: x,
-                },
-            }
-        }
+    if scan.number != 0 {
+        return refuse(scan.number, scan.place);
+    }
+    let x = scan.x;
+    let reading = finish(s, scan.last, x, at, scan.t);
+    match reading {
+        Reading::Refused(n, p) => refuse(n, p),
+        Reading::Whole => Read {
+            reading: Reading::Whole,
+            counts: x,
+        },
     }
 }
 

@@ -2,13 +2,13 @@
 --     test-short, test-unknown, test-told      what the tests come to, in their order
 --     taken-left, taken-put                    a field that is left; a row that is taken
 --     put-told                                 the row as the code puts it
---     rise-first, rise-then                    above the row before
+--     rise-first, rise-none, rise-then         above the row before
 --     joined-from                              an access that a row joins starts at its byte or before it
 use Prim.Native.Nat.{ℕ, _+_, _-_, _%_, _≤_, _<_}
 use mathlib.Core.Path.{_≡_, refl, sym, ap, _∙_}
 use mathlib.Core.Bool.{Bool, true, false, _&&_}
 use mathlib.Core.List.{List}
-use borrow.Author.Tests.{leb-true, le-leb, lt-leb, lt-ltb, le-ltb}
+use borrow.Author.Tests.{leb-true, le-leb, lt-leb, eq-eqb, ne-eqb}
 use lib.Dec.{leb}
 use lib.ListN.{length, getD, drop}
 use Rattle.basis.specs.Test.{_and_}
@@ -52,13 +52,17 @@ put-told s x at t q r a b m n ea eb em en = rw (ea, eb, em, en) refl
 
 -- the row before
 module _ (s : List ℕ) (p : ℕ) (x : Counts) (r : Row) where
-  pub rise-first : p < x .«rows_at» + 6 → true ≡ riseTest s p x r
+  pub rise-first : x .rows ≡ 0 → true ≡ riseTest s p x r
   unfolding riseTest
-  rise-first h = sym (or-holds _ _ (lt-ltb p (x .«rows_at» + 6) h))
+  rise-first z = sym (or-holds _ _ (eq-eqb (x .rows) 0 z))
 
-  pub rise-then : x .«rows_at» + 6 ≤ p → rowBelow (rowOf (x .head .edition) (drop (p - 3) s)) r ≡ riseTest s p x r
+  pub rise-none : (x .rows ≡ 0 → ⊥) → p < 3 → false ≡ riseTest s p x r
   unfolding riseTest
-  rise-then h = sym (or-fails _ _ (le-ltb p (x .«rows_at» + 6) h))
+  rise-none n h = sym (or-fails _ _ (ne-eqb (x .rows) 0 n) ∙ and-fails _ _ (lt-leb 3 p h))
+
+  pub rise-then : (x .rows ≡ 0 → ⊥) → 3 ≤ p → rowBelow (rowOf (x .head .edition) (drop (p - 3) s)) r ≡ riseTest s p x r
+  unfolding riseTest
+  rise-then n h = sym (or-fails _ _ (ne-eqb (x .rows) 0 n) ∙ and-holds _ _ (le-leb 3 p h))
 
 covers-from : (a : Shape) (n : ℕ) → covers a n ≡ true → a .start ≤ n
 unfolding covers

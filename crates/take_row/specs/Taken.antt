@@ -3,7 +3,7 @@
 --     rowHere s p x             the row of the field at p
 --     knownTest                 a row by its tag and its length, between events that stand before it, with a place in the table
 --     joinTest r a b            the access a of its reader reads its byte, and the access b of its writer, another event, writes it
---     riseTest                  it is above the row before it, whose value ends at p; none stands there before the first row
+--     riseTest                  it is the first, or above the row before it, whose value ends at p
 --     rowTest, rowTaken         all of them; the table with the row, the byte seen and the byte written
 --     TakenRow                  the answer is the test's, and the table has the row where it passed
 -- An event counts by its place among the slots. Assumes nothing.
@@ -37,7 +37,7 @@ unfoldable pub joinTest : Row → Shape → Shape → Bool
 joinTest r a b = (covers a (r .address) and reads a) and ((covers b (r .address) and writes b) and non (eqb (r .reader) (r .writer)))
 
 unfoldable pub riseTest : List ℕ → ℕ → Counts → Row → Bool
-riseTest s p x r = ltb p (x .«rows_at» + 6) or rowBelow (rowOf (x .head .edition) (drop (p - 3) s)) r
+riseTest s p x r = eqb (x .rows) 0 or (leb 3 p and rowBelow (rowOf (x .head .edition) (drop (p - 3) s)) r)
 
 -- the accesses of its events, as the table has them
 abbrev pub readerShape : List ℕ → Row → Shape

@@ -13,14 +13,18 @@ ghost use lib.ListN.{length, getD};
 ghost use Rattle.row_data.specs.RowData.{dataAt, passed};
 ghost use Rattle.take_row.specs.Taken.{knownTest, joinTest, riseTest, TakenRow};
 
-// Is the row r, of the field at p, above the one before it, which ends at p? Where none does, yes.
+// Is the row r, of the field at p, above the one before it, which ends at p? The first row is. By the count, so that the compiler takes the first row out
+// of the loop.
 fn rises(s: &[u8], p: u16, x: Counts, r: Row) -> bool
     requires { ⌜ p ≤ length (now s) ⌝ }
     ensures { λ y. ⌜ y ≡ riseTest (now (s .entry)) p x r ⌝ }
 {
-    let end = p as usize;
-    if end < x.rows_at as usize + 6 {
+    if x.rows == 0 {
         return true;
+    }
+    let end = p as usize;
+    if end < 3 {
+        return false;
     }
     let start = end - 3;
     limits::row_below(layout::row_of(x.head.edition, &s[start..end]), r)

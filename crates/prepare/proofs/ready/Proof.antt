@@ -6,57 +6,40 @@ use Rattle.prepare.proofs.PreparedLaws.{readied-bytes, readied-clean, r
 use borrow.Author.Needs.{needs}
 use Rattle.prepare.proofs.ready.Statement.{statement}
 use Rattle.prepare.proofs.ready.Tie as tie
-use Rattle.prepare.proofs.ready.Reads as reads
-use Rattle.prepare.proofs.ready.Lts as lts
-use Rattle.prepare.proofs.order.Reads as order-reads
-use Rattle.rules.proofs.bytes.Reads as bytes-reads
-use Rattle.rules.proofs.rest.Reads as rest-reads
-use Rattle.sift.proofs.sift.Reads as sift-reads
 
--- src/lib.rt:59:17
 cast-inits : tie.Need-cast-inits
 cast-inits c = search needs
 
--- src/lib.rt:60:18
 cast-events : tie.Need-cast-events
 cast-events c = search needs
 
--- src/lib.rt:61:16
 cast-rows : tie.Need-cast-rows
 cast-rows c = search needs
 
--- src/lib.rt:62:9
 bytes-requires : tie.Need-bytes-requires
 bytes-requires c κs = search needs
 
--- src/lib.rt:63:25
 enum-known-bytes : tie.Need-enum-known-bytes
 enum-known-bytes c = search needs
 
--- src/lib.rt:64:9
 returns : tie.Need-returns
 returns c = let a = c .before .before .before .before .before .before .before .before .args in readied-bytes (now (a .s)) (a .x) (now (a .t)) (now (a .q)) (now (a .succ)) (now (a .pred)) (c .before .before .before .bytes .ensures) (c .before .bytes2 .given .1)
 
 enum-told : tie.Need-enum-told
 enum-told c = search needs
 
--- src/lib.rt:69:5
 order-requires : tie.Need-order-requires
 order-requires c κs = search needs
 
--- src/lib.rt:70:9
 sift-requires : tie.Need-sift-requires
 sift-requires c κs = search needs
 
--- src/lib.rt:83:9
 returns-2 : tie.Need-returns-2
 returns-2 c = let a = c .before .before .before .before .before .before .before .before .before .before .before .before .before .before .before .before .before .args in readied-clean (now (a .s)) (a .x) (now (a .t)) (now (a .q)) (now (a .succ)) (now (a .pred)) refl (c .before .before .before .before .before .before .before .order .ensures) (c .before .before .before .before .before .before .before .before .before .before .before .before .bytes .ensures) (c .before .before .before .before .before .before .before .before .before .before .enum-told .given .1) (c .before .sift .ensures) (c .if1 .taken)
 
--- src/lib.rt:88:9
 rest-requires : tie.Need-rest-requires
 rest-requires c κs = search needs
 
--- src/lib.rt:46:1
 returns-3 : tie.Need-returns-3
 returns-3 c = let a = c .before .before .before .before .before .before .before .before .before .before .before .before .before .before .before .before .before .before .before .before .args in readied-rest (now (a .s)) (a .x) (now (a .t)) (now (a .q)) (now (a .succ)) (now (a .pred)) refl (c .before .before .before .before .before .before .before .before .before .before .order .ensures) (c .before .before .before .before .before .before .before .before .before .before .before .before .before .before .before .bytes .ensures) (c .before .before .before .before .before .before .before .before .before .before .before .before .before .enum-told .given .1) (c .before .before .before .before .sift .ensures) (c .before .before .before .if1 .left) (c .rest .ensures)
 

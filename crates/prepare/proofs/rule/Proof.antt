@@ -5,44 +5,31 @@ use Rattle.prepare.proofs.PreparedLaws.{ruled-bytes, ruled-rest}
 use borrow.Author.Needs.{needs}
 use Rattle.prepare.proofs.rule.Statement.{statement}
 use Rattle.prepare.proofs.rule.Tie as tie
-use Rattle.prepare.proofs.rule.Reads as reads
-use Rattle.prepare.proofs.rule.Lts as lts
-use Rattle.prepare.proofs.order.Reads as order-reads
-use Rattle.rules.proofs.bytes.Reads as bytes-reads
-use Rattle.rules.proofs.rest.Reads as rest-reads
 
--- src/lib.rt:106:13
 cast-n : tie.Need-cast-n
 cast-n c = search needs
 
--- src/lib.rt:107:13
 cast-m : tie.Need-cast-m
 cast-m c = search needs
 
--- src/lib.rt:108:9
 bytes-requires : tie.Need-bytes-requires
 bytes-requires c κs = search needs
 
--- src/lib.rt:109:25
 enum-known-bytes : tie.Need-enum-known-bytes
 enum-known-bytes c = search needs
 
--- src/lib.rt:110:9
 returns : tie.Need-returns
 returns c = let a = c .before .before .before .before .before .before .before .args in ruled-bytes (now (a .s)) (a .x) (now (a .t)) (now (a .q)) (now (a .succ)) (now (a .pred)) (c .before .before .before .bytes .ensures) (c .before .bytes2 .given .1)
 
 enum-told : tie.Need-enum-told
 enum-told c = search needs
 
--- src/lib.rt:112:5
 order-requires : tie.Need-order-requires
 order-requires c κs = search needs
 
--- src/lib.rt:113:5
 rest-requires : tie.Need-rest-requires
 rest-requires c κs = search needs
 
--- src/lib.rt:96:1
 returns-2 : tie.Need-returns-2
 returns-2 c = let a = c .before .before .before .before .before .before .before .before .before .before .before .before .args in ruled-rest (now (a .s)) (a .x) (now (a .t)) (now (a .q)) (now (a .succ)) (now (a .pred)) refl (c .before .before .before .order .ensures) (c .before .before .before .before .before .before .before .before .bytes .ensures) (c .before .before .before .before .before .before .enum-told .given .1) (c .rest .ensures)
 

@@ -9,15 +9,16 @@ use Rattle.format.specs.Execution.{Execution}
 use Rattle.sheet.specs.declared.Reading.{Reading}
 use Rattle.sheet.specs.declared.Reading.the-variants.{Refused, Whole}
 use Rattle.sheet.specs.declared.Scan.{Scan}
-use Rattle.sheet.specs.declared.Scan.the-variants.{Stopped, Ended}
 use Rattle.sheet.specs.declared.Read.{Read}
 use Rattle.parse.specs.Parse.{Parsed, refused, whole, parse}
 use Rattle.entries.specs.Entries.{eventsIn}
 use Rattle.spot.specs.Between.{blankCounts, Tallied, Tabled, Through}
 
-abbrev pub Scanned : List ℕ → List ℕ → List ℕ → Scan → List ℕ → List ℕ → List ℕ → Type 0
-Scanned s t q (Stopped n p) at t′ q′ = parse s ≡ refused n p
-Scanned s t q (Ended last x k) at t′ q′ = Through s last x at × Tallied (eventsIn s x at) k × Tabled s x at t t′ q q′
+pub record Scanned (s t q : List ℕ) (r : Scan) (at t′ q′ : List ℕ) : Type 0 where
+  pub fault : (r .number ≡ 0 → ⊥) → parse s ≡ refused (r .number) (r .place)
+  pub through : r .number ≡ 0 → Through s (r .last) (r .x) at
+  pub tallied : r .number ≡ 0 → Tallied (eventsIn s (r .x) at) (r .t)
+  pub tabled : r .number ≡ 0 → Tabled s (r .x) at t t′ q q′
 
 -- the answer that a reading gives, where the execution is x
 abbrev pub parsedOf : Reading → Execution → Parsed

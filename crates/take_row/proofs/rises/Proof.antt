@@ -5,22 +5,16 @@ use native.Mathlib.Omega.{arith}
 use lib.ListN.{drop}
 use Rattle.format.specs.Layout.{rowBytes}
 use Rattle.format.proofs.LayoutLaws.{row-front}
-use Rattle.take_row.proofs.TakenLaws.{rise-first, rise-then}
+use Rattle.take_row.proofs.TakenLaws.{rise-first, rise-none, rise-then}
 use borrow.Author.Needs.{needs}
 use Rattle.take_row.proofs.rises.Statement.{statement}
 use Rattle.take_row.proofs.rises.Tie as tie
 
-cast-if1 : tie.Need-cast-if1
-cast-if1 c = search needs
-
-add-if1 : tie.Need-add-if1
-add-if1 c = search needs
-
 returns : tie.Need-returns
-returns c = rise-first (now (c .before .before .before .args .s)) (c .before .before .before .args .p) (c .before .before .before .args .x) (c .before .before .before .args .r) (c .if1 .taken)
+returns c = let a = c .before .before .before .args in rise-first (now (a .s)) (a .p) (a .x) (a .r) (c .if1 .taken)
 
-sub-start : tie.Need-sub-start
-sub-start c = search needs
+returns-2 : tie.Need-returns-2
+returns-2 c = let a = c .before .before .before .before .args in rise-none (now (a .s)) (a .p) (a .x) (a .r) (c .before .if1 .left) (c .if2 .taken)
 
 sub-row-of : tie.Need-sub-row-of
 sub-row-of c = search needs
@@ -37,23 +31,19 @@ row-of-requires c κs = search needs
 row-below-requires : tie.Need-row-below-requires
 row-below-requires c κs = search needs
 
-returns-2 : tie.Need-returns-2
+returns-3 : tie.Need-returns-3
 unfolding rowBytes
-returns-2 c =
-    let a = c .before .before .before .before .before .before .args in
-    rw (c .row-below .ensures, c .before .row-of .ensures, row-front (a .x .head .edition) (drop (a .p - 3) (now (a .s))) (a .p - (a .p - 3)) (let h = c .before .before .before .if1 .left in omega arith)) (rise-then (now (a .s)) (a .p) (a .x) (a .r) (c .before .before .before .if1 .left))
+returns-3 c = let a = c .before .before .before .before .before .before .before .args in rw (c .row-below .ensures, c .before .row-of .ensures, row-front (a .x .head .edition) (drop (a .p - 3) (now (a .s))) (a .p - (a .p - 3)) (let h = c .before .before .before .if2 .left in omega arith)) (rise-then (now (a .s)) (a .p) (a .x) (a .r) (c .before .before .before .before .if1 .left) (c .before .before .before .if2 .left))
 
 pub rises-spec : {M : Type 1} → statement M
 rises-spec =
     tie.close
     (tie.spec
-    cast-if1
-    add-if1
     returns
-    sub-start
+    returns-2
     sub-row-of
     part-row-of-start
     part-row-of-end
     row-of-requires
     row-below-requires
-    returns-2)
+    returns-3)

@@ -9,6 +9,7 @@ use Rattle.spot.specs.Between.{Turn, Tallied, Carried}
 use Rattle.spot.proofs.TallyLaws.{tally-room, tally-next}
 use Rattle.spot.proofs.BetweenLaws.{turn-through, turn-fault, turn-ready, turn-reach, turn-next}
 use Rattle.spot.proofs.TabledLaws.{tabled-sizes}
+use Rattle.sheet.proofs.CompleteLaws.{scanned-fault, scanned-end}
 use borrow.Author.Needs.{needs}
 use Rattle.sheet.proofs.reader.fields.Statement.{statement}
 use Rattle.sheet.proofs.reader.fields.Tie as tie
@@ -38,7 +39,7 @@ same-length : tie.Need-same-length Inv-loop μ-loop
 same-length c = tabled-sizes _ _ _ _ _ _ _ (c .before .before .before .before .before .before .loop .inv .2 (now (c .before .before .before .before .before .before .before .before .before .before .before .before .before .before .before .before .before .args .t)) (now (c .before .before .before .before .before .before .before .before .before .before .before .before .before .before .before .before .before .args .q)) (c .before .before .before .before .before .before .before .before .before .before .before .fields .ensures (c .before .before .before .before .before .before .before .before .before .before .before .before .before .before .before .before .before .pre) .tabled)) .1
 
 returns : tie.Need-returns Inv-loop μ-loop
-returns c = rw (c .place-of .ensures) (turn-fault (now (c .before .before .before .before .before .before .before .before .before .before .before .before .before .before .before .before .before .args .s)) (c .before .before .before .before .before .before .loop .p) (c .before .before .before .before .before .before .loop .last) (c .before .before .before .before .before .before .loop .x) (c .before .before .before .before .before .before .loop .at) (c .before .before .before .before .before .before .loop .inv .0) _ (c .before .before .before .before .before .loop-test .taken) (c .before .before .fault-at .ensures) (c .before .if1 .taken))
+returns c = scanned-fault _ _ _ _ _ _ _ _ _ _ _ (c .before .if1 .taken) (rw (c .place-of .ensures) (turn-fault (now (c .before .before .before .before .before .before .before .before .before .before .before .before .before .before .before .before .before .args .s)) (c .before .before .before .before .before .before .loop .p) (c .before .before .before .before .before .before .loop .last) (c .before .before .before .before .before .before .loop .x) (c .before .before .before .before .before .before .loop .at) (c .before .before .before .before .before .before .loop .inv .0) _ (c .before .before .before .before .before .loop-test .taken) (c .before .before .fault-at .ensures) (c .before .if1 .taken)))
 
 next-at-requires : tie.Need-next-at-requires Inv-loop μ-loop
 next-at-requires c κs = search needs
@@ -72,7 +73,7 @@ same-length-2 : tie.Need-same-length-2 Inv-loop μ-loop
 same-length-2 c = tabled-sizes _ _ _ _ _ _ _ (c .before .loop .inv .2 (now (c .before .before .before .before .before .before .before .before .before .before .before .before .args .t)) (now (c .before .before .before .before .before .before .before .before .before .before .before .before .args .q)) (c .before .before .before .before .before .before .fields .ensures (c .before .before .before .before .before .before .before .before .before .before .before .before .pre) .tabled)) .1
 
 returns-2 : tie.Need-returns-2 Inv-loop μ-loop
-returns-2 c = (turn-through (now (c .before .before .before .before .before .before .before .before .before .before .before .before .args .s)) (c .before .loop .p) (c .before .loop .last) (c .before .loop .x) (c .before .loop .at) (c .before .loop .inv .0) (c .loop-test .left), c .before .loop .inv .1, c .before .loop .inv .2 (now (c .before .before .before .before .before .before .before .before .before .before .before .before .args .t)) (now (c .before .before .before .before .before .before .before .before .before .before .before .before .args .q)) (c .before .before .before .before .before .before .fields .ensures (c .before .before .before .before .before .before .before .before .before .before .before .before .pre) .tabled))
+returns-2 c = scanned-end _ _ _ _ _ _ _ _ _ _ (turn-through (now (c .before .before .before .before .before .before .before .before .before .before .before .before .args .s)) (c .before .loop .p) (c .before .loop .last) (c .before .loop .x) (c .before .loop .at) (c .before .loop .inv .0) (c .loop-test .left)) (c .before .loop .inv .1) (c .before .loop .inv .2 (now (c .before .before .before .before .before .before .before .before .before .before .before .before .args .t)) (now (c .before .before .before .before .before .before .before .before .before .before .before .before .args .q)) (c .before .before .before .before .before .before .fields .ensures (c .before .before .before .before .before .before .before .before .before .before .before .before .pre) .tabled))
 
 pub fields-spec : {M : Type 1} → statement M
 fields-spec =

@@ -16,17 +16,14 @@ returns c = read-refusal (now (c .before .before .before .args .s)) 1 0 (c .refu
 fields-requires : tie.Need-fields-requires
 fields-requires c κs = search needs
 
-enum-known-scan : tie.Need-enum-known-scan
-enum-known-scan c = search needs
-
 refuse-requires-2 : tie.Need-refuse-requires-2
 refuse-requires-2 c κs = search needs
 
-enum-known-scan-2 : tie.Need-enum-known-scan-2
-enum-known-scan-2 c = search needs
+returns-2 : tie.Need-returns-2
+returns-2 c = read-refusal (now (c .before .before .before .before .before .before .before .before .before .args .s)) _ _ (c .refuse2 .result) (c .refuse2 .ensures) (c .before .before .before .fields .ensures .fault (c .before .if2 .taken)) _ _ _ _ _
 
 finish-requires : tie.Need-finish-requires
-finish-requires c κs = (let h = (rw (c .before .before .before .scan2 .given .1) at (c .before .before .before .before .before .fields .ensures)) in (h .0, h .1))
+finish-requires c κs = (c .before .before .before .before .before .fields .ensures .through (c .before .before .before .if2 .left), c .before .before .before .before .before .fields .ensures .tallied (c .before .before .before .if2 .left))
 
 enum-known-reading : tie.Need-enum-known-reading
 enum-known-reading c = search needs
@@ -37,14 +34,11 @@ refuse-requires-3 c κs = search needs
 enum-told : tie.Need-enum-told
 enum-told c = search needs
 
-returns-2 : tie.Need-returns-2
-returns-2 c = read-refusal (now (c .before .before .before .before .before .before .before .before .before .before .args .s)) _ _ (c .refuse2 .result) (c .refuse2 .ensures) (rw (c .before .before .scan .given .1) at (c .before .before .before .before .fields .ensures)) _ _ _ _ _
-
 returns-3 : tie.Need-returns-3
-returns-3 c = read-refusal (now (c .before .before .before .before .before .before .before .before .before .before .before .before .before .before .before .before .args .s)) _ _ (c .refuse3 .result) (c .refuse3 .ensures) ((rw (c .before .before .before .before .before .before .before .before .scan2 .given .1) at (c .before .before .before .before .before .before .before .before .before .before .fields .ensures)) .0 .goes ∙ sym (rw (c .before .before .reading .given .1) at (c .before .before .before .before .finish .ensures))) _ _ _ _ _
+returns-3 c = read-refusal (now (c .before .before .before .before .before .before .before .before .before .before .before .before .before .before .before .before .args .s)) _ _ (c .refuse3 .result) (c .refuse3 .ensures) (c .before .before .before .before .before .before .before .before .before .before .fields .ensures .through (c .before .before .before .before .before .before .before .before .if2 .left) .goes ∙ sym (rw (c .before .before .reading .given .1) at (c .before .before .before .before .finish .ensures))) _ _ _ _ _
 
 returns-4 : tie.Need-returns-4
-returns-4 c = let h = (rw (c .before .before .before .before .before .before .scan2 .given .1) at (c .before .before .before .before .before .before .before .before .fields .ensures)) in read-whole (now (c .before .before .before .before .before .before .before .before .before .before .before .before .before .before .args .s)) _ _ _ _ _ _ _ (h .0) (h .2) (rw (c .enum-told .given .1) at (c .before .before .finish .ensures))
+returns-4 c = read-whole (now (c .before .before .before .before .before .before .before .before .before .before .before .before .before .before .args .s)) _ _ _ _ _ _ _ (c .before .before .before .before .before .before .before .before .fields .ensures .through (c .before .before .before .before .before .before .if2 .left)) (c .before .before .before .before .before .before .before .before .fields .ensures .tabled (c .before .before .before .before .before .before .if2 .left)) (rw (c .enum-told .given .1) at (c .before .before .finish .ensures))
 
 pub fill-spec : {M : Type 1} → statement M
 fill-spec =
@@ -53,13 +47,11 @@ fill-spec =
     refuse-requires
     returns
     fields-requires
-    enum-known-scan
     refuse-requires-2
-    enum-known-scan-2
+    returns-2
     finish-requires
     enum-known-reading
     refuse-requires-3
     enum-told
-    returns-2
     returns-3
     returns-4)

@@ -3,14 +3,17 @@
 -- `Spot` is spot's struct.
 --     initNext, otherNext, rowNext     the field at p, within the sheet, passes the test of an init; of another event; of a row
 --     PlainFields s t q r at t′ q′     it stands at r with the places at, the tables t and q have become t′ and q′, and the next field passes no test
+--     startSpot                        before the first field
+--     FieldsTaken s t q r at t′ q′     so of a sheet that is not too long; of one that is, before the first field, and no table has changed
 -- Assumes nothing.
 use mathlib.Core.Path.{_≡_}
 use mathlib.Core.Bool.{Bool, true, false}
 use mathlib.Core.List.{List}
-use Prim.Native.Nat.{ℕ}
+use Prim.Native.Nat.{ℕ, _≤_, _<_}
 use lib.Dec.{ltb}
 use lib.ListN.{length}
 use Rattle.basis.specs.Test.{_and_}
+use Rattle.format.specs.Limits.{maxBytes}
 use Rattle.format.specs.Field.{restAt}
 use Rattle.format.specs.Layout.{shapeOf}
 use Rattle.content.specs.Content.{within, standsFirst}
@@ -19,7 +22,7 @@ use Rattle.entries.specs.Entries.{eventsIn}
 use Rattle.faults.specs.Faults.{headTest, initTest, otherTest, tearTest}
 use Rattle.take_row.specs.Taken.{rowTest}
 use Rattle.spot.specs.declared.Spot.{Spot}
-use Rattle.spot.specs.Between.{Stands, Tabled}
+use Rattle.spot.specs.Between.{blankCounts, blankPlaces, Stands, Tabled}
 
 abbrev pub initNext : List ℕ → ℕ → Counts → List ℕ → Bool
 initNext s p x at = ltb p (length s) and (initTest s p x and standsFirst (eventsIn s x at) (shapeOf (x .head .edition) (restAt s p)))
@@ -38,3 +41,11 @@ pub record PlainFields (s t q : List ℕ) (r : Spot) (at t′ q′ : List ℕ) :
   pub no-init : r .last ≡ 1 → initNext s (r .p) (r .x) at ≡ false
   pub no-other : within 1 2 (r .last) ≡ true → otherNext s (r .p) (r .x) ≡ false
   pub no-row : within 2 3 (r .last) ≡ true → rowNext s (r .p) (r .x) t′ ≡ false
+
+-- before the first field
+abbrev pub startSpot : Spot
+startSpot = record { p = 0; last = 0; x = blankCounts; t = record { bytes = 0; agents = 0 } }
+
+pub record FieldsTaken (s t q : List ℕ) (r : Spot) (at t′ q′ : List ℕ) : Type 0 where
+  pub fit : length s ≤ maxBytes → PlainFields s t q r at t′ q′
+  pub long : maxBytes < length s → (r ≡ startSpot) × (at ≡ blankPlaces) × (t′ ≡ t) × (q′ ≡ q)

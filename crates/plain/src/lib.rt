@@ -22,8 +22,8 @@ ghost use Rattle.format.specs.Layout.{shapeOf};
 ghost use Rattle.entries.specs.Entries.{eventsIn};
 ghost use Rattle.faults.specs.Faults.{frontBytes};
 ghost use Rattle.spot.specs.Between.{blankPlaces, Stands, Tabled, Carried, Shaped, withRows};
-ghost use Rattle.plain.specs.Fields.{PlainFields};
-ghost use Rattle.plain.specs.steps.Growing.{startSpot, Grown, TakenEvent, Fitting, Lined, FirstTold, BeginLeft, InitsLeft, EventsLeft, RowsLeft};
+ghost use Rattle.plain.specs.Fields.{startSpot, FieldsTaken};
+ghost use Rattle.plain.specs.steps.Growing.{Grown, TakenEvent, Fitting, Lined, FirstTold, BeginLeft, InitsLeft, EventsLeft, RowsLeft};
 
 fn clear(at: &mut [u16])
     requires { ⌜ length (now at) ≡ slots ⌝ }
@@ -299,9 +299,9 @@ fn rows(s: &[u8], spot: Spot, at: &[u16], t: &[u8; COLUMNS], q: &mut [u8]) -> Sp
 }
 
 // The fields of a sheet of at most 4,096 bytes, front to back, the events and rows into the tables, up to one that is left: where the reader then stands.
-// What the places hold on entry does not matter.
+// Of a longer one none is taken. What the places hold on entry does not matter.
 pub fn fields(s: &[u8], at: &mut [u16; SLOTS], t: &mut [u8; COLUMNS], q: &mut [u8]) -> Spot
-    ensures { λ r. ⌜ (length (now (s .entry)) ≤ maxBytes → PlainFields (now (s .entry)) (now (t .entry)) (now (q .entry)) r (now (at .exit)) (now (t .exit)) (now (q .exit))) ⌝ }
+    ensures { λ r. ⌜ FieldsTaken (now (s .entry)) (now (t .entry)) (now (q .entry)) r (now (at .exit)) (now (t .exit)) (now (q .exit)) ⌝ }
 {
     clear(at);
     if MAX_BYTES < s.len() {

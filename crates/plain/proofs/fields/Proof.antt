@@ -1,5 +1,5 @@
 -- `plain::fields` meets its contract: each step stands where the one before it left off, and the tables carry what they held. Assumes nothing.
-use mathlib.Core.Path.{_≡_, sym, subst}
+use mathlib.Core.Path.{_≡_, refl, sym, subst}
 use mathlib.Core.List.{List}
 use Prim.Native.Nat.{ℕ}
 use denote.Ref.{now}
@@ -20,7 +20,7 @@ start-requires : tie.Need-start-requires
 start-requires c κs = search needs
 
 returns : tie.Need-returns
-returns c = λ h. absurd (let l = c .before .if1 .taken in omega (arith, h, l))
+returns c = record { fit = λ h. absurd (let l = c .before .if1 .taken in omega (arith, h, l)); long = λ h. (c .start .ensures, c .before .before .clear .ensures, refl, refl) }
 
 begin-requires : tie.Need-begin-requires
 begin-requires c κs = search needs
@@ -43,17 +43,21 @@ same-length : tie.Need-same-length
 same-length c = search needs
 
 returns-2 : tie.Need-returns-2
-returns-2 c = λ h.
+returns-2 c =
     let s = now (c .before .before .before .before .before .before .before .before .before .before .before .before .before .before .before .before .before .before .before .args .s) in
     let t = now (c .before .before .before .before .before .before .before .before .before .before .before .before .before .before .before .before .before .before .before .args .t) in
     let q = now (c .before .before .before .before .before .before .before .before .before .before .before .before .before .before .before .before .before .before .before .args .q) in
     record {
-      stands = c .before .before .rows .ensures .0;
-      tabled = c .before .before .rows .ensures .1 t q (c .before .before .before .before .before .before .before .events .ensures .0 .carried q t q (c .before .before .before .before .before .before .before .before .before .before .inits .ensures .0 .carried q t q (subst (λ (a : List ℕ). Tabled s (c .before .before .before .before .before .before .before .before .before .before .before .before .before .begin .result .x) a t t q q) (sym (c .before .before .before .before .before .before .before .before .before .before .before .before .before .before .before .clear .ensures)) (c .before .before .before .before .before .before .before .before .before .before .before .before .before .begin .ensures .1 t q))));
-      no-head = head-left (c .before .before .before .before .before .before .before .before .before .before .before .before .before .begin .ensures .2) (c .before .before .before .before .before .before .before .before .before .before .inits .ensures .1) (c .before .before .before .before .before .before .before .events .ensures .1) (c .before .before .rows .ensures .2);
-      no-init = init-left (c .before .before .before .before .before .before .before .before .before .before .inits .ensures .1) (c .before .before .before .before .before .before .before .events .ensures .1) (c .before .before .rows .ensures .2);
-      no-other = other-left (c .before .before .before .before .before .before .before .events .ensures .1) (c .before .before .rows .ensures .2);
-      no-row = row-left (c .before .before .before .before .before .before .before .before .before .before .before .before .before .begin .ensures .2) (c .before .before .before .before .before .before .before .before .before .before .inits .ensures .1) (c .before .before .before .before .before .before .before .events .ensures .1) (c .before .before .rows .ensures .2);
+      fit = λ h.
+          record {
+            stands = c .before .before .rows .ensures .0;
+            tabled = c .before .before .rows .ensures .1 t q (c .before .before .before .before .before .before .before .events .ensures .0 .carried q t q (c .before .before .before .before .before .before .before .before .before .before .inits .ensures .0 .carried q t q (subst (λ (a : List ℕ). Tabled s (c .before .before .before .before .before .before .before .before .before .before .before .before .before .begin .result .x) a t t q q) (sym (c .before .before .before .before .before .before .before .before .before .before .before .before .before .before .before .clear .ensures)) (c .before .before .before .before .before .before .before .before .before .before .before .before .before .begin .ensures .1 t q))));
+            no-head = head-left (c .before .before .before .before .before .before .before .before .before .before .before .before .before .begin .ensures .2) (c .before .before .before .before .before .before .before .before .before .before .inits .ensures .1) (c .before .before .before .before .before .before .before .events .ensures .1) (c .before .before .rows .ensures .2);
+            no-init = init-left (c .before .before .before .before .before .before .before .before .before .before .inits .ensures .1) (c .before .before .before .before .before .before .before .events .ensures .1) (c .before .before .rows .ensures .2);
+            no-other = other-left (c .before .before .before .before .before .before .before .events .ensures .1) (c .before .before .rows .ensures .2);
+            no-row = row-left (c .before .before .before .before .before .before .before .before .before .before .before .before .before .begin .ensures .2) (c .before .before .before .before .before .before .before .before .before .before .inits .ensures .1) (c .before .before .before .before .before .before .before .events .ensures .1) (c .before .before .rows .ensures .2);
+          };
+      long = λ h. absurd (let l = c .before .before .before .before .before .before .before .before .before .before .before .before .before .before .if1 .left in omega (arith, h, l));
     }
 
 pub fields-spec : {M : Type 1} → statement M

@@ -1,5 +1,4 @@
 -- The loops over inits, other events and rows, and what they ask: the contracts of the crate's own functions, no part of what it promises.
---     startSpot                     before the first field
 --     Grown                         the table of accesses has grown with the events
 --     TakenEvent                    an event has been taken into the places, the table and the tally
 --     Fitting                       a shape is that of an event that is no init
@@ -33,10 +32,6 @@ use Rattle.row_data.specs.RowData.{rowPut}
 use Rattle.lay.specs.Lay.{eventPut}
 use Rattle.plain.specs.Fields.{initNext, otherNext, rowNext}
 use Rattle.spot.specs.Between.{blankCounts, Turn, tallyWith, Tallied, Stands, Carried, Shaped, behind, withRows}
-
--- before the first field
-abbrev pub startSpot : Spot
-startSpot = record { p = 0; last = 0; x = blankCounts; t = record { bytes = 0; agents = 0 } }
 
 -- while no row is read
 pub record Grown (s : List ℕ) (from : Spot) (at t : List ℕ) (to : Spot) (at′ t′ : List ℕ) : Type 0 where

@@ -24,7 +24,7 @@ fields-requires : tie.Need-fields-requires Inv-loop μ-loop
 fields-requires c κs = search needs
 
 loop-holds : tie.Need-loop-holds Inv-loop μ-loop
-loop-holds c = let h = c .before .before .before .before .fields .ensures (c .before .before .before .before .before .before .before .before .before .before .pre) in (h .stands .turn, h .stands .tallied, λ t₀ q₀ g. g)
+loop-holds c = let h = c .before .before .before .before .fields .ensures .fit (c .before .before .before .before .before .before .before .before .before .before .pre) in (h .stands .turn, h .stands .tallied, λ t₀ q₀ g. g)
 
 cast-loop : tie.Need-cast-loop Inv-loop μ-loop
 cast-loop c = omega arith
@@ -36,7 +36,7 @@ place-of-requires : tie.Need-place-of-requires Inv-loop μ-loop
 place-of-requires c κs = search needs
 
 same-length : tie.Need-same-length Inv-loop μ-loop
-same-length c = tabled-sizes _ _ _ _ _ _ _ (c .before .before .before .before .before .before .loop .inv .2 (now (c .before .before .before .before .before .before .before .before .before .before .before .before .before .before .before .before .before .args .t)) (now (c .before .before .before .before .before .before .before .before .before .before .before .before .before .before .before .before .before .args .q)) (c .before .before .before .before .before .before .before .before .before .before .before .fields .ensures (c .before .before .before .before .before .before .before .before .before .before .before .before .before .before .before .before .before .pre) .tabled)) .1
+same-length c = tabled-sizes _ _ _ _ _ _ _ (c .before .before .before .before .before .before .loop .inv .2 (now (c .before .before .before .before .before .before .before .before .before .before .before .before .before .before .before .before .before .args .t)) (now (c .before .before .before .before .before .before .before .before .before .before .before .before .before .before .before .before .before .args .q)) (c .before .before .before .before .before .before .before .before .before .before .before .fields .ensures .fit (c .before .before .before .before .before .before .before .before .before .before .before .before .before .before .before .before .before .pre) .tabled)) .1
 
 returns : tie.Need-returns Inv-loop μ-loop
 returns c = scanned-fault _ _ _ _ _ _ _ _ _ _ _ (c .before .if1 .taken) (rw (c .place-of .ensures) (turn-fault (now (c .before .before .before .before .before .before .before .before .before .before .before .before .before .before .before .before .before .args .s)) (c .before .before .before .before .before .before .loop .p) (c .before .before .before .before .before .before .loop .last) (c .before .before .before .before .before .before .loop .x) (c .before .before .before .before .before .before .loop .at) (c .before .before .before .before .before .before .loop .inv .0) _ (c .before .before .before .before .before .loop-test .taken) (c .before .before .fault-at .ensures) (c .before .if1 .taken)))
@@ -70,10 +70,10 @@ loop-again c = (
 )
 
 same-length-2 : tie.Need-same-length-2 Inv-loop μ-loop
-same-length-2 c = tabled-sizes _ _ _ _ _ _ _ (c .before .loop .inv .2 (now (c .before .before .before .before .before .before .before .before .before .before .before .before .args .t)) (now (c .before .before .before .before .before .before .before .before .before .before .before .before .args .q)) (c .before .before .before .before .before .before .fields .ensures (c .before .before .before .before .before .before .before .before .before .before .before .before .pre) .tabled)) .1
+same-length-2 c = tabled-sizes _ _ _ _ _ _ _ (c .before .loop .inv .2 (now (c .before .before .before .before .before .before .before .before .before .before .before .before .args .t)) (now (c .before .before .before .before .before .before .before .before .before .before .before .before .args .q)) (c .before .before .before .before .before .before .fields .ensures .fit (c .before .before .before .before .before .before .before .before .before .before .before .before .pre) .tabled)) .1
 
 returns-2 : tie.Need-returns-2 Inv-loop μ-loop
-returns-2 c = scanned-end _ _ _ _ _ _ _ _ _ _ (turn-through (now (c .before .before .before .before .before .before .before .before .before .before .before .before .args .s)) (c .before .loop .p) (c .before .loop .last) (c .before .loop .x) (c .before .loop .at) (c .before .loop .inv .0) (c .loop-test .left)) (c .before .loop .inv .1) (c .before .loop .inv .2 (now (c .before .before .before .before .before .before .before .before .before .before .before .before .args .t)) (now (c .before .before .before .before .before .before .before .before .before .before .before .before .args .q)) (c .before .before .before .before .before .before .fields .ensures (c .before .before .before .before .before .before .before .before .before .before .before .before .pre) .tabled))
+returns-2 c = scanned-end _ _ _ _ _ _ _ _ _ _ (turn-through (now (c .before .before .before .before .before .before .before .before .before .before .before .before .args .s)) (c .before .loop .p) (c .before .loop .last) (c .before .loop .x) (c .before .loop .at) (c .before .loop .inv .0) (c .loop-test .left)) (c .before .loop .inv .1) (c .before .loop .inv .2 (now (c .before .before .before .before .before .before .before .before .before .before .before .before .args .t)) (now (c .before .before .before .before .before .before .before .before .before .before .before .before .args .q)) (c .before .before .before .before .before .before .fields .ensures .fit (c .before .before .before .before .before .before .before .before .before .before .before .before .pre) .tabled))
 
 pub fields-spec : {M : Type 1} → statement M
 fields-spec =

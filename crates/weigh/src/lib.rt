@@ -13,7 +13,7 @@ ghost use Rattle.tables.specs.Tables.{rowRoom};
 ghost use Rattle.alike.specs.Ranges.{equalsIn};
 ghost use Rattle.bars.specs.Listed.{listRoom, Listed};
 ghost use Rattle.orders.specs.Answer.{Answered};
-ghost use Rattle.arrange.specs.Arranged.{barsOf, Arranged};
+ghost use Rattle.arrange.specs.Arranged.{barsOf};
 ghost use Rattle.weigh.specs.Weighed.{Weighed};
 
 // Whether there is an order, and the first one: by the list of bars where it has all, which is mostly little.
@@ -49,43 +49,6 @@ fn seek(
         );
     }
     arrange::by_table(inits, events, rows, t, q, succ, pred, scratch, order)
-}
-
-// The last step. What is said has one caller, so that the compiler puts it in place.
-fn last(
-    inits: usize,
-    events: usize,
-    rows: usize,
-    t: &[u8; COLUMNS],
-    q: &[u8; ROW_CELLS],
-    succ: &[u32; SLOTS],
-    pred: &[u32; SLOTS],
-    between: &[u32; LIST],
-    readers: &[u8; LIST],
-    writers: &[u8; LIST],
-    count: usize,
-    scratch: &mut [u8],
-    order: &mut [u8],
-) -> Answer
-    requires { ⌜ (count < listRoom → Listed (now t) (equalsIn (now t) (min events slots)) (now succ) (now pred) (now q) inits (min rows rowRoom) count (now between) (now readers) (now writers)) ⌝ }
-    ensures { λ r. ⌜ Arranged inits events rows (now (t .entry)) (now (q .entry)) (now (succ .entry)) (now (pred .entry)) (now (scratch .entry)) (now (order .entry)) r (now (scratch .exit)) (now (order .exit)) ⌝ }
-{
-    let found = seek(
-        inits,
-        events,
-        rows,
-        t,
-        q,
-        succ,
-        pred,
-        between,
-        readers,
-        writers,
-        count,
-        scratch,
-        order,
-    );
-    arrange::said(found, t, succ, events)
 }
 
 // The answer on the tables of accesses and rows, and the sheet's pairs; where a rule is broken, the first `need` bytes of the scratch are cleared.
@@ -126,20 +89,24 @@ pub fn weigh(
             marks::clear(scratch, need);
             Answer::Broken(n, names)
         }
-        Rule::Kept => last(
-            inits,
-            events,
-            rows,
-            t,
-            q,
-            &succ,
-            &pred,
-            &between,
-            &readers,
-            &writers,
-            count,
-            scratch,
-            order,
-        ),
+        Rule::Kept => {
+            let found = seek(
+                inits,
+                events,
+                rows,
+                t,
+                q,
+                &succ,
+                &pred,
+                &between,
+                &readers,
+                &writers,
+                count,
+                scratch,
+                order,
+            );
+            // its only caller, so that the compiler puts it in place
+            arrange::said(found, t, &succ, events)
+        }
     }
 }

@@ -1,5 +1,6 @@
--- `weigh::weigh` meets its contract: a rule of 21 to 25, or the last step. Assumes nothing.
+-- `weigh::weigh` meets its contract: a rule of 21 to 25, or what is said of the order that was sought. Assumes nothing.
 use Rattle.prepare.proofs.PreparedLaws.{readied-listed}
+use Rattle.arrange.proofs.ArrangedLaws.{arranged-said}
 use Rattle.weigh.proofs.WeighedLaws.{weighed-broken, weighed-kept}
 use borrow.Author.Needs.{needs}
 use Rattle.weigh.proofs.weigh.Statement.{statement}
@@ -26,8 +27,11 @@ clear-requires c κs = search needs
 enum-told : tie.Need-enum-told
 enum-told c = search needs
 
-last-requires : tie.Need-last-requires
-last-requires c κs = readied-listed (c .before .before .before .before .before .before .before .before .before .ready .ensures) (c .before .before .before .before .before .before .before .enum-told .given .1)
+seek-requires : tie.Need-seek-requires
+seek-requires c κs = readied-listed (c .before .before .before .before .before .before .before .before .before .ready .ensures) (c .before .before .before .before .before .before .before .enum-told .given .1)
+
+said-requires : tie.Need-said-requires
+said-requires c κs = search needs
 
 same-length : tie.Need-same-length
 same-length c = search needs
@@ -42,7 +46,7 @@ same-length-3 : tie.Need-same-length-3
 same-length-3 c = search needs
 
 returns-2 : tie.Need-returns-2
-returns-2 c = weighed-kept (c .before .before .before .before .before .before .before .before .before .before .before .before .before .before .ready .ensures .ruled) (c .before .before .before .before .before .before .before .before .before .before .before .before .enum-told .given .1) (c .before .before .before .before .last .ensures)
+returns-2 c = weighed-kept (c .before .before .before .before .before .before .before .before .before .before .before .before .before .before .before .before .ready .ensures .ruled) (c .before .before .before .before .before .before .before .before .before .before .before .before .before .before .enum-told .given .1) (arranged-said (c .before .before .before .before .before .before .seek .ensures) (c .said .ensures))
 
 pub weigh-spec : {M : Type 1} → statement M
 weigh-spec =
@@ -55,7 +59,8 @@ weigh-spec =
     enum-known-rule
     clear-requires
     enum-told
-    last-requires
+    seek-requires
+    said-requires
     same-length
     returns
     same-length-2

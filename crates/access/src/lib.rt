@@ -1,4 +1,6 @@
 // Tests of one access: what 01 says by a kind, a mode and a tear (crates/format/specs/Shape.antt); by a range: crates/ranges.
+#![tactic(auto)]
+
 ghost use Rattle.std.specs.Prelude.{◌≡◌};
 ghost use Rattle.format.specs.Shape.{reads, writes, marks, initial, sc, tear_free};
 

@@ -1,4 +1,6 @@
 // What is tested after all fields, of agents: whether the head promises one that has no event (14).
+#![tactic(auto)]
+
 ghost use Rattle.std.specs.Prelude.{◌≡◌, replicate};
 ghost use Rattle.parse.specs.Parse.{missing};
 ghost use Rattle.entries.specs.Entries.{events_in, execution};

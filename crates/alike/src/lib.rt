@@ -1,4 +1,6 @@
 // Equal ranges by masks: for each sc access the set of the events that have a writing sc access with its range. The public function has no `requires`.
+#![tactic(auto)]
+
 ghost use Rattle.std.specs.Prelude.{◌≡◌, ℕ, ◌*◌, ◌%◌, min, eqb, length, get_or, replicate};
 ghost use Rattle.sets.specs.Mask.{slots};
 ghost use Rattle.sets.specs.Tells.{Tells};

@@ -1,4 +1,6 @@
 // The answer of a judged sheet, and its 64-bit number for the suite's harness.
+#![tactic(auto)]
+
 ghost use Rattle.std.specs.Prelude.{◌≡◌};
 ghost use Rattle.answer.specs.Number.{settled_number};
 ghost use Rattle.answer.specs.NameOf.{names_of, pair_of};

@@ -1,5 +1,7 @@
 // The last step over tables, where no rule of 21 to 25 is broken: the bars, the search, and the unsettled pair. The first order, or 26. Crate `weigh`
 // puts the two functions together, or takes a list of bars.
+#![tactic(auto)]
+
 ghost use Rattle.std.specs.Prelude.{◌≡◌, min};
 ghost use Rattle.sets.specs.Mask.{slots};
 ghost use Rattle.settle.specs.Settle.{settled_in};

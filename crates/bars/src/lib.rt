@@ -1,5 +1,7 @@
 // Bars by masks: at v * 32 + w of the bars stands the mask of the readers R with a bar (R, W, V). The sets of equal ranges come from crate `alike`.
 // No function has a `requires`.
+#![tactic(auto)]
+
 ghost use Rattle.std.specs.Prelude.{◌≡◌, ℕ, ◌%◌, min};
 ghost use Rattle.basis.specs.Test.{◌and◌, non};
 ghost use Rattle.sets.specs.Mask.{slots, mem};

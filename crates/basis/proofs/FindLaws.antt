@@ -42,10 +42,13 @@ module _ {A : Type 0} where
   none_keep false a r h e = e
 
   -- nothing found: nothing passes
-  pub find_none : (f : A → Bool) (l : List A) → find f l ≡ none → (a : A) → Memᴰ a l → T (f a) → ⊥
+  find_none_of : (f : A → Bool) (a : A) (l : List A) → find f l ≡ none → Memᴰ a l → T (f a) → ⊥
   unfolding find
-  find_none f l h a (Memᴰ.head {x = b} {xs = k} e) t = (keep_none (f b) b (find f k) h).0 (subst (λ (c : A). T (f c)) e t)
-  find_none f l h a (Memᴰ.tail {x = b} {xs = k} m) t = find_none f k (keep_none (f b) b (find f k) h).1 a m t
+  find_none_of f a l h (Memᴰ.head {x = b} {xs = k} e) t = (keep_none (f b) b (find f k) h).0 (subst (λ (c : A). T (f c)) e t)
+  find_none_of f a l h (Memᴰ.tail {x = b} {xs = k} m) t = find_none_of f a k (keep_none (f b) b (find f k) h).1 m t
+
+  pub find_none : (f : A → Bool) (l : List A) → find f l ≡ none → (a : A) → Memᴰ a l → T (f a) → ⊥
+  find_none f l h a m t = find_none_of f a l h m t
 
   pub none_find : (f : A → Bool) (l : List A) → ((a : A) → Memᴰ a l → T (f a) → ⊥) → find f l ≡ none
   unfolding find

@@ -156,11 +156,13 @@ module _ {A : Type 0} where
 
 pub each_elim : {A B : Type 0} (g : A → B) (l : List A) (p : B) → Memᴰ p (each g l) → (j : A) × (Memᴰ j l × (g j ≡ p))
 unfolding each
+each_elim {A = A} {B = B} g [] p k = elim k [ ]
 each_elim g (i ∷ l) p (Memᴰ.head e) = (i, (Memᴰ.head refl, sym e))
 each_elim g (i ∷ l) p (Memᴰ.tail k) = let r = each_elim g l p k in (r.0, (Memᴰ.tail r.1.0, r.1.1))
 
 pub each_mem : {A B : Type 0} (g : A → B) (l : List A) (j : A) → Memᴰ j l → Memᴰ (g j) (each g l)
 unfolding each
+each_mem {A = A} {B = B} g [] j k = elim k [ ]
 each_mem g (i ∷ l) j (Memᴰ.head e) = Memᴰ.head (ap g e)
 each_mem g (i ∷ l) j (Memᴰ.tail k) = Memᴰ.tail (each_mem g l j k)
 
@@ -229,8 +231,11 @@ module _ {A B : Type 0} where
       on (inl q) ih = let w = each_elim (λ (b : B). (a, b)) m p q in subst (λ (b : B). Memᴰ b m) (ap (λ (t : A × B). t.1) w.1.1) w.1.0
       on (inr q) ih = ih q
 
-  pub across_mem : (l : List A) (m : List B) (a : A) (b : B) → Memᴰ a l → Memᴰ b m → Memᴰ {A = A × B} (a, b) (across l m)
+  across_mem_of : (a : A) (b : B) (l : List A) (m : List B) → Memᴰ a l → Memᴰ b m → Memᴰ {A = A × B} (a, b) (across l m)
   unfolding across
-  across_mem l m a b (Memᴰ.head {x = c} {xs = k} e) q =
+  across_mem_of a b l m (Memᴰ.head {x = c} {xs = k} e) q =
       Memᴰ.append_left (across k m) (subst (λ (d : A). Memᴰ {A = A × B} (a, b) (each (λ (y : B). (d, y)) m)) e (each_mem {B = A × B} (λ (y : B). (a, y)) m b q))
-  across_mem l m a b (Memᴰ.tail {x = c} {xs = k} p) q = Memᴰ.append_right (each (λ (y : B). (c, y)) m) (across_mem k m a b p q)
+  across_mem_of a b l m (Memᴰ.tail {x = c} {xs = k} p) q = Memᴰ.append_right (each (λ (y : B). (c, y)) m) (across_mem_of a b k m p q)
+
+  pub across_mem : (l : List A) (m : List B) (a : A) (b : B) → Memᴰ a l → Memᴰ b m → Memᴰ {A = A × B} (a, b) (across l m)
+  across_mem l m a b p q = across_mem_of a b l m p q

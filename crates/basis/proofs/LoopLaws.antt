@@ -31,10 +31,13 @@ module _ {A : Type 0} where
       go ih (inl s) = (a, Memᴰ.head refl, s)
       go ih (inr s) = let w = ih s in (w.0, Memᴰ.tail w.1, w.2)
 
-  pub any_intro : (f : A → Bool) (l : List A) (a : A) → Memᴰ a l → T (f a) → T (any f l)
+  any_intro_of : (f : A → Bool) (a : A) (l : List A) → Memᴰ a l → T (f a) → T (any f l)
   unfolding any
-  any_intro f l a (Memᴰ.head {x = b} {xs = k} e) t = or_left (f b) (any f k) (subst (λ (c : A). T (f c)) e t)
-  any_intro f l a (Memᴰ.tail {x = b} {xs = k} m) t = or_right (f b) (any f k) (any_intro f k a m t)
+  any_intro_of f a l (Memᴰ.head {x = b} {xs = k} e) t = or_left (f b) (any f k) (subst (λ (c : A). T (f c)) e t)
+  any_intro_of f a l (Memᴰ.tail {x = b} {xs = k} m) t = or_right (f b) (any f k) (any_intro_of f a k m t)
+
+  pub any_intro : (f : A → Bool) (l : List A) (a : A) → Memᴰ a l → T (f a) → T (any f l)
+  any_intro f l a m t = any_intro_of f a l m t
 
 module _ {A : Type 0} (p : A → Bool) (l : List A) where
   any_step : (i : ℕ) (d : A) → i < length l → any p (drop i l) ≡ (p (get_or l i d) or any p (drop (i + 1) l))

@@ -44,11 +44,14 @@ module _ {A : Type 0} (f : A → Bool) where
       (λ h n. ⊎_elim (λ e. (Memᴰ.head e, true_T _ (ap f e ∙ h))) (λ i. let w = those_elim l a i in (Memᴰ.tail w.0, w.1)) (Memᴰ.cases_cons n))
       (λ h n. let w = those_elim l a n in (Memᴰ.tail w.0, w.1)) m
 
-  pub those_intro : (l : List A) (a : A) → Memᴰ a l → T (f a) → Memᴰ a (those f l)
-  those_intro l a (Memᴰ.head {x = c} {xs = k} q) t =
+  those_intro_of : (a : A) (l : List A) → Memᴰ a l → T (f a) → Memᴰ a (those f l)
+  those_intro_of a l (Memᴰ.head {x = c} {xs = k} q) t =
       subst (λ (j : List A). Memᴰ a j) (sym (those_first c k (ap f (sym q) ∙ T_true _ t))) (Memᴰ.head q)
-  those_intro l a (Memᴰ.tail {x = c} {xs = k} m) t =
-      let w = those_intro k a m t in those_by (λ j. Memᴰ a j) c k (λ h. Memᴰ.tail w) (λ h. w)
+  those_intro_of a l (Memᴰ.tail {x = c} {xs = k} m) t =
+      let w = those_intro_of a k m t in those_by (λ j. Memᴰ a j) c k (λ h. Memᴰ.tail w) (λ h. w)
+
+  pub those_intro : (l : List A) (a : A) → Memᴰ a l → T (f a) → Memᴰ a (those f l)
+  those_intro l a m t = those_intro_of a l m t
 
   pub those_append : (k l : List A) → those f (k ++ l) ≡ those f k ++ those f l
   unfolding those
@@ -63,12 +66,15 @@ module _ {A : Type 0} (f : A → Bool) where
   those_length [] = omega arith
   those_length (a ∷ l) = let w = those_length l in those_by (λ k. length k ≤ length (a ∷ l)) a l (λ h. omega arith) (λ h. omega arith)
 
-  pub those_shorter : (l : List A) (a : A) → Memᴰ a l → (T (f a) → ⊥) → length (those f l) < length l
-  those_shorter l a (Memᴰ.head {x = c} {xs = k} q) h =
+  those_shorter_of : (a : A) (l : List A) → Memᴰ a l → (T (f a) → ⊥) → length (those f l) < length l
+  those_shorter_of a l (Memᴰ.head {x = c} {xs = k} q) h =
       let w = those_length k in
       those_by (λ j. length j < length (c ∷ k)) c k (λ y. absurd (h (true_T _ (ap f q ∙ y)))) (λ y. omega arith)
-  those_shorter l a (Memᴰ.tail {x = c} {xs = k} m) h =
-      let w = those_shorter k a m h in those_by (λ j. length j < length (c ∷ k)) c k (λ y. omega arith) (λ y. omega arith)
+  those_shorter_of a l (Memᴰ.tail {x = c} {xs = k} m) h =
+      let w = those_shorter_of a k m h in those_by (λ j. length j < length (c ∷ k)) c k (λ y. omega arith) (λ y. omega arith)
+
+  pub those_shorter : (l : List A) (a : A) → Memᴰ a l → (T (f a) → ⊥) → length (those f l) < length l
+  those_shorter l a m h = those_shorter_of a l m h
 
   pub those_sorted : (R : A → A → Type 0) (l : List A) → Sorted R l → Sorted R (those f l)
   unfolding those

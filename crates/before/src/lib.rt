@@ -1,5 +1,7 @@
 // Happens-before over the tables: succ[e] is the mask of the events that e happens before, pred[d] of those that happen before d. Both grow a step at
 // a time, and are closed after each. The public function has no `requires`.
+#![tactic(auto)]
+
 ghost use Rattle.std.specs.Prelude.{◌≡◌, cond, List, ℕ, ◌<◌, ◌≤◌, min, length};
 ghost use Rattle.std.specs.Int.Bits.{bit_or};
 ghost use Rattle.sets.specs.Mask.{slots, insert};

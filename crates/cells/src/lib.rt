@@ -1,4 +1,6 @@
 // Tables of masks, of any length. No function has a `requires`: what lies beyond the end is not written.
+#![tactic(auto)]
+
 ghost use Rattle.std.specs.Prelude.{◌≡◌, cond, ◌%◌, set};
 ghost use Rattle.sets.specs.Mask.{slots, insert};
 ghost use Rattle.cells.specs.Cells.{gaining, spread};

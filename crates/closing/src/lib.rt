@@ -1,4 +1,6 @@
 // Closure by rows: a whole row of successors at once, two pivots in one pass over the rows. The public function has no `requires`.
+#![tactic(auto)]
+
 ghost use Rattle.std.specs.Prelude.{◌≡◌, ◌%◌, ◌<◌, ◌≤◌, length};
 ghost use Rattle.std.specs.Int.Bits.{bit_or};
 ghost use Rattle.sets.specs.Mask.{slots};

@@ -1,4 +1,6 @@
 // The closure by rows under the C calling convention, for tests and benchmarks only: what C and Rust call stands in crates/plimdrong. No `requires`.
+#![tactic(auto)]
+
 ghost use Rattle.closing.specs.Closure.{taken, Closed};
 
 #[unsafe(no_mangle)]

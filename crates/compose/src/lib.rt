@@ -1,5 +1,7 @@
 // The bytes that a lent table stands for (crates/encode), put into a buffer. What has no place in the buffer is not written: in a buffer of more than
 // 4,096 bytes the place after the last byte tells whether the sheet would be too long.
+#![tactic(auto)]
+
 ghost use Rattle.std.specs.Prelude.{◌≡◌, cond, List, [], ℕ, ◌+◌, ◌-◌, ◌*◌, ◌≤◌, leb, length, take};
 ghost use Rattle.basis.specs.Test.{each, from};
 ghost use Rattle.puts.specs.Put.{Puts};

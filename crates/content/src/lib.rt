@@ -1,5 +1,7 @@
 // The content of an event by itself: a test for each sentence of 01 that asks for nothing but the event and the head. Reader and writer use them. Of the other
 // fields: crates/limits.
+#![tactic(auto)]
+
 ghost use Rattle.std.specs.Prelude.{◌≡◌, eqb, ◌%◌};
 ghost use Rattle.basis.specs.Test.{◌and◌, ◌or◌};
 ghost use Rattle.format.specs.Shape.{initial};

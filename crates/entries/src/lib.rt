@@ -1,5 +1,7 @@
 // What the counts and places of a sheet describe: an event's agent and shape, a row, a pair. Nothing is copied, and each function answers for every
 // number. What is asked of an event or a row stands in a few bytes: where the sheet has them, they are read without a test for each.
+#![tactic(auto)]
+
 ghost use Rattle.std.specs.Prelude.{◌≡◌, ◌+◌, ◌*◌, min, length, get_or, take};
 ghost use Rattle.format.specs.Field.{rest_at};
 ghost use Rattle.format.specs.Layout.{event_bytes, agent_of, shape_of, row_gap};

@@ -1,4 +1,6 @@
 // The first fault of a field, by the counts and places of what stands before it: its refusal's number, 0 for none; and the refusal's place.
+#![tactic(auto)]
+
 ghost use Rattle.std.specs.Prelude.{◌≡◌, ◌-◌};
 ghost use Rattle.parse.specs.Parse.{place_of, allowed, head_fault, event_fault_by, row_fault, pair_fault, value_fault_by};
 ghost use Rattle.entries.specs.Entries.{events_in, rows_in, pairs_in, execution};

@@ -4,6 +4,8 @@
 // of bars may stand for such a table.
 // The first `inits` of the `events` are the inits; the table of entered sets in the scratch has a bit for each set of the others.
 // No public function has a `requires`: what does not fit gets a stated answer, with nothing changed.
+#![tactic(auto)]
+
 ghost use Rattle.std.specs.Prelude.{◌≡◌, ◌++◌, ◌+◌, ◌-◌, ◌<◌, ◌≤◌, min, length, get_or, take, drop};
 ghost use Rattle.basis.specs.Test.{from};
 ghost use Rattle.sets.specs.Mask.{slots};

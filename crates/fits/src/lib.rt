@@ -1,4 +1,6 @@
 // The content of an event, a row, a pair, among those before it in the sheet: the tests of 01 that look at other fields.
+#![tactic(auto)]
+
 ghost use Rattle.std.specs.Prelude.{◌≡◌};
 ghost use Rattle.basis.specs.Test.{any};
 ghost use Rattle.content.specs.Content.{stands_first, event_fits, row_rises, row_fits, pair_rises, pair_fits};

@@ -3,6 +3,8 @@
 // Tables: before[b] is the mask of the events that have to come before b; bars[v * 32 + w] is the mask of the r with a bar (r, w, v). A short list
 // of bars may stand for such a table. The first k of the m events are the inits.
 // No public function has a `requires`: where numbers do not fit, false, and nothing is changed.
+#![tactic(auto)]
+
 ghost use Rattle.std.specs.Prelude.{◌≡◌, ℕ, ◌<◌, ◌≤◌, true, length, replicate};
 ghost use Rattle.sets.specs.Mask.{slots, Has};
 ghost use Rattle.orders.specs.Tables.{tabled};

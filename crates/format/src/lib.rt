@@ -1,4 +1,6 @@
 // The format of sheets: what stands in a field, and what an access is.
+#![tactic(auto)]
+
 pub mod field;
 
 // The limits of a sheet (specs/Limits.antt), named once for the code too.

@@ -1,5 +1,7 @@
 // The writers that have bars with each event, over a table of bars, whatever it holds: bars[v * 32 + w] is the mask of the r with a bar (r, w, v). The
 // public function has no `requires`.
+#![tactic(auto)]
+
 ghost use Rattle.std.specs.Prelude.{◌<◌, ◌≤◌, min};
 ghost use Rattle.sets.specs.Mask.{slots};
 ghost use Rattle.gather.specs.Writers.{Readers, Writers, Gathers};

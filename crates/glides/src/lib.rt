@@ -4,6 +4,8 @@
 // before[b] is the mask of the events that have to come before b; entry i of the list has the bars (readers[i], writers[i], v), for each v of between[i].
 // The first k of the m events are the inits; the table of entered sets in the scratch has a bit for each set of the others.
 // The public function has no `requires`: what does not fit is answered false, with nothing changed.
+#![tactic(auto)]
+
 ghost use Rattle.std.specs.Prelude.{◌≡◌, false, ◌%◌, ◌^◌, ◌<◌, ◌≤◌, min, length};
 ghost use Rattle.sets.specs.Mask.{slots, Within, full};
 ghost use Rattle.placing.specs.Placing.{is_seen};

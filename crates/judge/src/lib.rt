@@ -1,4 +1,6 @@
 // The judge: a sheet, a lent scratch and a lent order buffer become an answer. What a whole sheet breaks or not is weighed by crate `weigh`.
+#![tactic(auto)]
+
 ghost use Rattle.std.specs.Prelude.{List, ℕ, replicate};
 ghost use Rattle.tables.specs.Tables.{columns, row_cells};
 ghost use Rattle.sheet.specs.Filled.{FilledWhole};

@@ -3,6 +3,8 @@
 // Tables as in `first_order`: before[b] is the mask of the events that have to come before b; bars[v * 32 + w] is the mask of the r with a bar
 // (r, w, v). The bar (r, w, v) has the number r * 1024 + w * 32 + v, so that rising numbers are rising triples.
 // No public function has a `requires`: what does not fit gets a stated answer, with nothing changed.
+#![tactic(auto)]
+
 ghost use Rattle.std.specs.Prelude.{◌≡◌, true, ◌++◌, ◌+◌, ◌-◌, ◌*◌, ◌<◌, ◌≤◌, length, set, drop};
 ghost use Rattle.basis.specs.Test.{each};
 ghost use Rattle.marks.specs.Table.{bytes_for, cleared};

@@ -1,4 +1,6 @@
 // What is tested after all fields: whether some event reads (10), and whether a read byte has no row (11).
+#![tactic(auto)]
+
 ghost use Rattle.std.specs.Prelude.{◌≡◌, ℕ};
 ghost use Rattle.basis.specs.Test.{◌and◌, any, from, non};
 ghost use Rattle.format.specs.Shape.{reads};

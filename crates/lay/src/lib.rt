@@ -1,5 +1,7 @@
 // The table of pairs, filled from what the reader hands over: counts, and a place in the sheet. The tables of accesses and of rows are filled by the
 // reader (crates/sheet); what they then hold is said here (specs/Lay). No function has a `requires`.
+#![tactic(auto)]
+
 ghost use Rattle.std.specs.Prelude.{◌≡◌, min};
 ghost use Rattle.tables.specs.Tables.{pair_room};
 ghost use Rattle.lay.specs.Lay.{pair_put, pairs_put};

@@ -1,5 +1,7 @@
 // What stands where in the value of a field, by the head's edition (crates/format/specs/Layout.antt): the code's one place for it, but for how many
 // bytes it has (crates/sizes).
+#![tactic(auto)]
+
 ghost use Rattle.std.specs.Prelude.{◌≡◌};
 ghost use Rattle.format.specs.Shape.{tear_of};
 ghost use Rattle.format.specs.Layout.{tear_by, head_of, shape_of, row_of, pair_of};

@@ -1,4 +1,6 @@
 // The other way of the writer: a sheet's table into lent buffers, for suites that mend old sheets.
+#![tactic(auto)]
+
 ghost use Rattle.std.specs.Prelude.{◌≡◌, ◌*◌};
 ghost use Rattle.format.specs.Layout.{head_bytes, row_bytes, pair_bytes};
 ghost use Rattle.encode.specs.Lent.{description_bytes};

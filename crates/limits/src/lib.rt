@@ -1,5 +1,7 @@
 // The limits of a head and of the counts of events, and the orders in which rows and pairs rise: a test for each sentence of 01 about them. Reader and writer
 // use them. Definitions: crates/content/specs/Content.antt, crates/format/specs/Execution.antt.
+#![tactic(auto)]
+
 ghost use Rattle.std.specs.Prelude.{◌≡◌};
 ghost use Rattle.format.specs.Execution.{row_below, pair_below};
 ghost use Rattle.content.specs.Content.{head_fits, room_in};

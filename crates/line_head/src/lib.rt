@@ -1,5 +1,7 @@
 // The report line of an answer up to where the order begins: fixed words and decimal numbers, as bytes into a lent buffer. No function has a
 // `requires`.
+#![tactic(auto)]
+
 ghost use Rattle.puts.specs.Numbers.{numbered};
 ghost use Rattle.line_head.specs.Head.{name_text, names_text, refused_text, broken_text, settled_text, head_of};
 ghost use Rattle.line_head.specs.Within.{PutsWithin};

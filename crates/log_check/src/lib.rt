@@ -1,5 +1,7 @@
 // A sheet and a lent list of event numbers (02 §5): the sheet's own refusal or broken rule first, then what is said of the list. No scratch and no
 // order buffer.
+#![tactic(auto)]
+
 ghost use Rattle.std.specs.Prelude.{◌≡◌, List, ℕ, replicate};
 ghost use Rattle.tables.specs.Tables.{columns, row_cells};
 ghost use Rattle.sheet.specs.Filled.{FilledWhole};

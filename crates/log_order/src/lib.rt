@@ -1,5 +1,7 @@
 // A lent list of event numbers, held against the tables: its first fault, or that there is none (02 §5). It knows nothing of sheets' bytes.
 // No public function has a `requires`: events count up to the slots, rows up to those that have a place.
+#![tactic(auto)]
+
 ghost use Rattle.std.specs.Prelude.{◌≡◌, ℕ, ◌%◌, ◌≤◌, min, length, get_or};
 ghost use Rattle.basis.specs.Test.{◌and◌, ◌else◌};
 ghost use Rattle.sets.specs.Mask.{slots, mem};

@@ -1,4 +1,6 @@
 // The table of entered sets in lent bytes: a bit for each set. No public function has a `requires`.
+#![tactic(auto)]
+
 ghost use Rattle.std.specs.Prelude.{◌≡◌, min};
 ghost use Rattle.sets.specs.Mask.{slots};
 ghost use Rattle.marks.specs.Table.{is_marked, marking, bytes_for, cleared};

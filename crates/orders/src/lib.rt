@@ -1,5 +1,7 @@
 // What an order is, and when all events can be placed one at a time: definitions and laws (specs/, proofs/), which the crates of the search cite, and the
 // test of what a search takes. The public function has no `requires`.
+#![tactic(auto)]
+
 ghost use Rattle.sets.specs.Tells.{Tells};
 ghost use Rattle.orders.specs.Answer.{Fits};
 

@@ -1,5 +1,7 @@
 // The search under the C calling convention, for tests and benchmarks only: what C and Rust call stands in crates/plimdrong. No function has a
 // `requires`; tables are arrays, so that their lengths are fixed.
+#![tactic(auto)]
+
 ghost use Rattle.orders.specs.Answer.{Told, Answered};
 ghost use Rattle.orders_c.specs.Exported.{Exported};
 

@@ -1,5 +1,7 @@
 // The direct steps that events make by themselves: an init leads to what it meets, another event to the later events of its agent. Mask by mask; no
 // function has a `requires`.
+#![tactic(auto)]
+
 ghost use Rattle.std.specs.Prelude.{◌≡◌, cond, ◌%◌, min, eqb};
 ghost use Rattle.sets.specs.Mask.{slots};
 ghost use Rattle.sets.specs.Tells.{Tells};

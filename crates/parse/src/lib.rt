@@ -1,1 +1,2 @@
 // What a sheet says: definitions and theorems, no code.
+#![tactic(auto)]

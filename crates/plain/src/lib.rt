@@ -1,5 +1,7 @@
 // Most fields of a sheet, read at once: a head, inits, other events, rows, as long as each is without a fault; the next is left to the reader, which
 // asks every test of it.
+#![tactic(auto)]
+
 ghost use Rattle.std.specs.Prelude.{◌≡◌, true, List, ℕ, ◌+◌, ◌*◌, ◌≤◌, ◌<◌, length};
 ghost use Rattle.sets.specs.Mask.{slots};
 ghost use Rattle.format.specs.Limits.{max_bytes};

@@ -2,6 +2,8 @@
 // (include/plimdrong.h) declares them; requests of 02 add theirs here. Each byte slice passes as a pointer and then a length, and the answer is
 // a 64-bit word: kind * 2^40 + number * 2^32 + 32 bits. Whoever takes a word apart masks the kind to eight bits: bits 48 and up will carry a
 // region. Names and words stay once they have landed (docs/DECISIONS.md, Exports).
+#![tactic(auto)]
+
 ghost use Rattle.plimdrong.specs.JudgedWord.{JudgedWord};
 ghost use Rattle.encode.specs.Lend.{five};
 ghost use Rattle.plimdrong.specs.WrittenWord.{WrittenWord};

@@ -2,6 +2,8 @@
 // first, which asks for none; mostly none is broken, and one pass over the rows tells so and lists the bars by the way. Total: nothing is asked of the
 // sheet, the counts, the places or the tables. The judge calls `ready`, the check of a list `rule`: each has one caller, so that the compiler puts it
 // in place there.
+#![tactic(auto)]
+
 ghost use Rattle.std.specs.Prelude.{min, replicate};
 ghost use Rattle.sets.specs.Mask.{slots};
 ghost use Rattle.tables.specs.Tables.{row_room, pair_room, pair_cells};

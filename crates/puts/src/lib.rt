@@ -1,4 +1,6 @@
 // Words and decimal numbers, put as bytes into a lent buffer. No function has a `requires`: what has no place is not written.
+#![tactic(auto)]
+
 ghost use Rattle.std.specs.Prelude.{◌≡◌, [], ◌∷◌, ◌+◌, leb, length};
 ghost use Rattle.puts.specs.Decimal.{decimal};
 ghost use Rattle.puts.specs.Numbers.{numbered, events_text};

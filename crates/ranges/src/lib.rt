@@ -1,4 +1,6 @@
 // Tests of the range of an access, and of two: what 01 says by a start and a width (crates/format/specs/Shape.antt).
+#![tactic(auto)]
+
 ghost use Rattle.std.specs.Prelude.{◌≡◌};
 ghost use Rattle.format.specs.Shape.{covers, overlap, equal, both_sc, unbroken};
 

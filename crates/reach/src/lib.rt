@@ -1,5 +1,7 @@
 // How many sets can be built by placing events one at a time, from that of the inits on (02 §9). The tables are those of `orders`. The public function
 // has no `requires`: what does not fit gets a stated answer, with nothing changed.
+#![tactic(auto)]
+
 ghost use Rattle.orders.specs.Tables.{tabled};
 ghost use Rattle.orders.specs.Walk.{Gathered, Starting};
 ghost use Rattle.reach.specs.Reachable.{Tallied};

@@ -1,5 +1,7 @@
 // The reader on any number of sheets from standard input, each after its length in two bytes; a line for each: the refusal, or 'read' with the
 // agents, the memory size, the inits, the events, the rows and the pairs. A test; stdin and stdout come from tests/reader.
+#![tactic(auto)]
+
 ghost use Rattle.std.specs.Prelude.{◌≤◌, ◌<◌, length};
 ghost use Rattle.format.specs.Limits.{max_bytes};
 

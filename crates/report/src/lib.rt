@@ -1,4 +1,6 @@
 // The report line of an answer: its head (crate `line_head`), the order and a newline, as bytes into a lent buffer.
+#![tactic(auto)]
+
 ghost use Rattle.std.specs.Prelude.{◌≡◌, ◌≤◌, length};
 ghost use Rattle.report.specs.Line.{told};
 ghost use Rattle.report.specs.Lined.{Lined};

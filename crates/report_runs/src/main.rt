@@ -1,4 +1,6 @@
 // Prints the report lines of fixed answers, each with its 64-bit number in hexadecimal after it.
+#![tactic(auto)]
+
 use answer::{Answer, Names, Settled};
 use libc::STDOUT_FILENO;
 

@@ -1,4 +1,6 @@
 // A row into its table, with the byte that its reader saw and the byte that its writer wrote, read out of the sheet. No function has a `requires`.
+#![tactic(auto)]
+
 ghost use Rattle.std.specs.Prelude.{◌≡◌, ◌-◌};
 ghost use Rattle.row_data.specs.RowData.{laid_shape, data_at, passed, row_put};
 

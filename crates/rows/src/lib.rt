@@ -1,5 +1,7 @@
 // Rows and pairs of the tables that every step of the judge works on (crates/tables): one of them read. No function has a `requires`: a row counts by its place
 // among 288, a pair by its place among 32.
+#![tactic(auto)]
+
 ghost use Rattle.std.specs.Prelude.{◌≡◌, ◌%◌};
 ghost use Rattle.tables.specs.Tables.{row_room, row_in, seen_in, wrote_in, pair_room, pair_in};
 

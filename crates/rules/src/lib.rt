@@ -1,4 +1,6 @@
 // The rules 21 to 24 over the tables, each of which finds the first row or event at fault, and the first broken of 21 to 25.
+#![tactic(auto)]
+
 ghost use Rattle.std.specs.Prelude.{◌≡◌, ℕ, ◌%◌, min};
 ghost use Rattle.basis.specs.Test.{◌and◌};
 ghost use Rattle.sets.specs.Tells.{Tells};

@@ -1,4 +1,6 @@
 // Sets of events as masks. No public function has a `requires`.
+#![tactic(auto)]
+
 ghost use Rattle.std.specs.Prelude.{◌≡◌, cond, ◌%◌, min};
 ghost use Rattle.sets.specs.Tells.{Tells};
 ghost use Rattle.sets.specs.Mask.{slots, mem, Within, insert, remove, full, above, Lowest, Rest};

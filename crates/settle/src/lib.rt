@@ -1,4 +1,6 @@
 // The lowest unsettled pair over the tables. The public function has no `requires`.
+#![tactic(auto)]
+
 ghost use Rattle.std.specs.Prelude.{◌≡◌, ◌+◌, ◌%◌, ◌≤◌, min, true};
 ghost use Rattle.sets.specs.Mask.{slots, Rest};
 ghost use Rattle.cells.specs.First.{first_of};

@@ -1,4 +1,6 @@
 // The reader of sheets: any bytes become a refusal, by number and place, or a whole sheet. The types that it hands over.
+#![tactic(auto)]
+
 use entries::Counts;
 use sets::SLOTS;
 use spot::Tally;

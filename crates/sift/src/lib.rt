@@ -1,6 +1,8 @@
 // One pass over the rows where no rule of 22 to 25 is broken, which is mostly so: it notices whether something may be amiss, and lists the bars by
 // the way. By first accesses alone: where an event has a second one, the answer is that something may be. No jump in the loops by what they find, but
 // for one out of the pass.
+#![tactic(auto)]
+
 ghost use Rattle.std.specs.Prelude.{◌≡◌, true, List, ℕ, ◌%◌, ◌<◌, min, eqb, length, get_or, replicate};
 ghost use Rattle.basis.specs.Test.{◌and◌, non};
 ghost use Rattle.sets.specs.Mask.{slots, mem};

@@ -1,4 +1,6 @@
 // The bytes of the value of a field, by the head's edition (crates/format/specs/Layout.antt): the code's one place for these numbers.
+#![tactic(auto)]
+
 ghost use Rattle.std.specs.Prelude.{◌≡◌};
 ghost use Rattle.format.specs.Layout.{head_bytes, event_bytes, data_bytes, row_bytes};
 

@@ -1,5 +1,7 @@
 // The slices of a table (crates/encode/specs/Lend.antt), each put into a lent buffer from its first byte on, out of a sheet whose counts and places
 // are given. No function has a `requires`: what has no place in the buffer is not written.
+#![tactic(auto)]
+
 ghost use Rattle.std.specs.Prelude.{◌≡◌, take, drop};
 ghost use Rattle.encode.specs.Encode.{head_value};
 ghost use Rattle.puts.specs.Put.{Puts};

@@ -1,4 +1,6 @@
 // Where the reader of a sheet stands between two fields: the counts and the tally so far, and what a field more makes of them. No function has a `requires`.
+#![tactic(auto)]
+
 ghost use Rattle.std.specs.Prelude.{◌≡◌, cond, ◌*◌, ◌%◌, ◌≤◌, ltb, set};
 ghost use Rattle.sets.specs.Mask.{slots, insert};
 ghost use Rattle.format.specs.Shape.{reads};

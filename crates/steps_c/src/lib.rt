@@ -1,5 +1,7 @@
 // The judge's steps over tables under the C calling convention, two and two, for tests and benchmarks. No function has a `requires`; tables are arrays,
 // so that their lengths are fixed.
+#![tactic(auto)]
+
 ghost use Rattle.steps_c.specs.Exported.{StepsRuled, StepsBarred};
 
 use answer::{Answer, Rule};

@@ -1,5 +1,7 @@
 // The tables that every step of the judge works on: an entry written. No function has a `requires`: an event counts by its place among 32, a slot by
 // its place among 64, a row by its place among 288, a pair by its place among 32, and what has no place in the buffer is not written.
+#![tactic(auto)]
+
 ghost use Rattle.std.specs.Prelude.{◌≡◌, ◌%◌, set};
 ghost use Rattle.sets.specs.Mask.{slots};
 ghost use Rattle.tables.specs.Tables.{accesses, row_room, pair_room, putting, putting_row, putting_pair};

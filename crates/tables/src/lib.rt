@@ -1,5 +1,7 @@
 // The tables that every step of the judge works on, in arrays of fixed length: their lengths, and what stands in that of accesses; rows and pairs
 // are read by crates/rows. No function has a `requires`: an event counts by its place among 32, a slot by its place among 64.
+#![tactic(auto)]
+
 ghost use Rattle.std.specs.Prelude.{◌≡◌, ◌%◌};
 ghost use Rattle.sets.specs.Mask.{slots};
 ghost use Rattle.tables.specs.Tables.{accesses, agent_in, shape_in, slot_in, at_in};

@@ -1,5 +1,7 @@
 // A row of a sheet, tested and taken at once, by the accesses of its events as they stand in their table. No public function has a `requires`: an event counts by
 // its place among 32.
+#![tactic(auto)]
+
 ghost use Rattle.std.specs.Prelude.{◌≡◌, ◌+◌, ◌≤◌, length, get_or};
 ghost use Rattle.row_data.specs.RowData.{data_at, passed};
 ghost use Rattle.take_row.specs.Taken.{known_test, join_test, rise_test, TakenRow};

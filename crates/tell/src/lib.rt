@@ -1,4 +1,6 @@
 // A sheet judged and told as a line, into lent buffers.
+#![tactic(auto)]
+
 ghost use Rattle.std.specs.Prelude.{◌≡◌, ◌≤◌, length, take};
 ghost use Rattle.tell.specs.JudgedLine.{placed, JudgedLine};
 

@@ -1,4 +1,6 @@
 // Rule 25 over the tables, by masks: a read whose access takes its bytes from two writers, all three tear-free with equal ranges.
+#![tactic(auto)]
+
 ghost use Rattle.std.specs.Prelude.{◌≡◌, ◌%◌, min, if◌then◌else◌};
 ghost use Rattle.sets.specs.Mask.{slots, insert};
 ghost use Rattle.sets.specs.Tells.{Tells};

@@ -1,6 +1,8 @@
 // The judge on any number of sheets from standard input, each after its length in two bytes; a line for each. For tests; stdin and stdout are
 // the litmus sheets (examples/litmus), made by tests/litmus/make.sh. An input that ends inside a sheet, a read or a write that fails is said on
 // standard error.
+#![tactic(auto)]
+
 ghost use Rattle.std.specs.Prelude.{◌+◌, ◌<◌, ◌≤◌, length};
 ghost use Rattle.format.specs.Limits.{max_bytes};
 

@@ -1,5 +1,7 @@
 // The program of 01: one sheet from standard input, one line out. Where a read or the write fails it says so on standard error, and where a read
 // failed there is no line. A program of the toolchain has no exit status of its own: the script ./verdict makes one of it.
+#![tactic(auto)]
+
 ghost use Rattle.std.specs.Prelude.{◌<◌, length};
 ghost use Rattle.format.specs.Limits.{max_bytes};
 ghost use Rattle.tell.specs.Demands.{Enough, Line};

@@ -4,6 +4,8 @@
 // Tables: before[b] is the mask of the events that have to come before b; bars[v * 32 + w] is the mask of the r with a bar (r, w, v).
 // The first k of the m events are the inits; the table of entered sets in the scratch has a bit for each set of the others.
 // The public function has no `requires`: what does not fit is answered false, with nothing changed.
+#![tactic(auto)]
+
 ghost use Rattle.std.specs.Prelude.{◌≤◌, length};
 ghost use Rattle.sets.specs.Mask.{slots};
 ghost use Rattle.orders.specs.Tables.{tabled};

@@ -1,5 +1,7 @@
 // Tables, weighed: crate `prepare` makes happens_before, tries the rules 21 to 25 and lists the bars, and where no rule is broken the last step follows.
 // Total: nothing is asked of the sheet, the counts, the tables or the buffers.
+#![tactic(auto)]
+
 ghost use Rattle.std.specs.Prelude.{◌<◌, min};
 ghost use Rattle.sets.specs.Mask.{slots};
 ghost use Rattle.tables.specs.Tables.{row_room};

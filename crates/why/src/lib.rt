@@ -1,5 +1,7 @@
 // Why no order exists (02 §8): of a sheet broken by 26 the bars without any one of which some order exists; of every other sheet the judge's own answer.
 // The scratch and the buffer for the bars are lent; there is no order buffer.
+#![tactic(auto)]
+
 ghost use Rattle.std.specs.Prelude.{◌≡◌, List, ℕ, ◌-◌, ◌≤◌, min, length, replicate};
 ghost use Rattle.sets.specs.Mask.{slots};
 ghost use Rattle.marks.specs.Table.{bytes_for};

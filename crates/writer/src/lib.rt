@@ -1,5 +1,7 @@
 // The writer of sheets: a table of event descriptions, rows and pairs, lent as bytes, becomes a sheet in a lent buffer. The sheet is composed in bytes
 // of the writer's own, and the reader says what is wrong with it: no test of the reader's is made a second time.
+#![tactic(auto)]
+
 ghost use Rattle.std.specs.Prelude.{◌≡◌, cond, suc, ◌+◌, ◌≤◌, eqb, length};
 ghost use Rattle.format.specs.Limits.{max_bytes};
 ghost use Rattle.encode.specs.Encode.{encode};

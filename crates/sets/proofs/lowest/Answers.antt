@@ -5,20 +5,15 @@ use native.Mathlib.Omega.{arith}
 use lib.Count.{count_trailing_zeros}
 use Rattle.sets.specs.Mask.{slots}
 use Rattle.sets.proofs.MaskLaws.{lowest_in, lowest_least, lowest_none, lowest_le}
-use Rattle.sets.proofs.lowest.Statement.{statement}
-use Rattle.sets.proofs.lowest.Tie as tie
+use Rattle.sets.proofs.lowest.Goals as goal
 
-cast-result : tie.Need-overflow-cast-result
-cast-result c = omega (arith, lowest_le slots c.args.s)
+pub overflow_cast-result : goal.overflow_cast-result
+overflow_cast-result c = omega (arith, lowest_le slots c.args.s)
 
-returns : tie.Need-returns
-returns c =
-    let s = c.args.s in
+pub returns : goal.returns
+returns c = let s = c.args.s in
     record {
       member = λ p. lowest_in slots s p c.ranges.s.fits;
       least = λ d l. lowest_least slots s d l;
       none = λ p. ap (λ (x : ℕ). count_trailing_zeros slots x) p ∙ lowest_none slots;
     }
-
-pub lowest_spec : {M : Type 1} → statement M
-lowest_spec = tie.close (tie.spec cast-result returns)

@@ -1,0 +1,273 @@
+#!/usr/bin/env python3
+"""Turns the proofs of functions of an older Rattle, proofs/F/Proof.antt with a goal each (`tie.Need-X`), into today's Answers.antt and Invariants.antt.
+It goes by the list of old and new names that `rt check --generated FOLDER --old-names` writes, and leaves what only says `search rules` to the check.
+
+usage: tools/answers.py CRATE [FUNCTION..]      at the top of the repository, once a crate's libraries are built
+"""
+import json
+import os
+import re
+import subprocess
+import sys
+import tempfile
+
+
+def blocks(text):
+    """The declarations of a file: runs of lines that begin at the margin, with the comments above them."""
+    out, now = [], []
+    for line in text.split("\n"):
+        if not line.strip():
+            now.append(line)
+            continue
+        if line[0] not in " )" and now and any(x.strip() for x in now) and not now[-1].strip():
+            out.append(now)
+            now = []
+        now.append(line)
+    if any(x.strip() for x in now):
+        out.append(now)
+    return ["\n".join(b).strip("\n") for b in out]
+
+
+class Names:
+    def __init__(self, record):
+        self.needs = {old: (new, place) for (old, new), place in zip(record["needs"], record["asked_at"])}
+        self.new_needs = {new: (new, place) for (old, new), place in zip(record["needs"], record["asked_at"])}
+        self.settled = set(record["settled"])
+        self.places = {}
+        for name, parent, step, callee, extra in record["places"]:
+            self.places[name] = (parent, step)
+        self.loops = record["loops"]
+        self.record = record
+
+    def path(self, place, befores):
+        for _ in range(befores):
+            if place is None or place not in self.places:
+                return None
+            place = self.places[place][0]
+        return place
+
+
+PATH = re.compile(r"(?<![\w.'₀])c((?:\.[^\s(){},;.]+)+)")
+FIXED = ("args", "requires", "ranges", "type_inv", "utf8", "auto")
+
+
+def flat(names, place, text, said, label):
+    """The body of an answer with its paths into `c` as today's record has them."""
+    # a name for a part of the path
+    for _ in range(20):
+        m = re.search(r"let ([^\s:=]+) = (c(?:\.before)*) in\s*", text)
+        if not m:
+            break
+        alias, is_ = m.group(1), m.group(2)
+        text = text[: m.start()] + re.sub(r"(?<![\w.'₀-])" + re.escape(alias) + r"(?=\.)", is_, text[m.end():])
+
+    def one(m):
+        parts = m.group(1)[1:].split(".")
+        k = 0
+        while k < len(parts) and parts[k] == "before":
+            k += 1
+        rest = parts[k:]
+        at = names.path(place, k)
+        if at is None or not rest:
+            said.append(f"{label}: path {m.group(0)} at {place}")
+            return m.group(0)
+        # fields of the step of a place, or of one above it
+        f = rest[0]
+        where = at
+        parent, step = names.places.get(where, (None, ("", "")))
+        if f in FIXED:
+            return "c." + ".".join(rest)
+        if f == step[0]:
+            return "c." + ".".join([step[1]] + rest[1:])
+        if f == step[1]:
+            return m.group(0) if k == 0 else "c." + ".".join(rest)
+        said.append(f"{label}: no step {f} at {where} (its own: {step}), of {m.group(0)}")
+        return "c." + ".".join(rest)
+
+    return PATH.sub(one, text)
+
+
+def convert(crate, fn, folder, names, said):
+    path = os.path.join(folder, "Proof.antt")
+    with open(path, encoding="utf-8") as f:
+        text = f.read()
+    bs = blocks(text)
+    head, uses = [], []
+    answers, invariants, helpers = [], [], []
+    first = True
+    for b in bs:
+        lines = b.split("\n")
+        if first:
+            i = 0
+            while i < len(lines) and lines[i].startswith("--"):
+                head.append(lines[i])
+                i += 1
+            while i < len(lines) and (lines[i].startswith("use ") or lines[i].startswith("pub use ") or not lines[i].strip()):
+                if lines[i].strip():
+                    uses.append(lines[i])
+                i += 1
+            first = False
+            rest = "\n".join(lines[i:]).strip("\n")
+            if not rest:
+                continue
+            b = rest
+            lines = b.split("\n")
+        note = []
+        while lines and lines[0].startswith("--"):
+            note.append(lines.pop(0))
+        b2 = "\n".join(lines)
+        if not lines:
+            if note:
+                helpers.append("\n".join(note))
+            continue
+        m = re.match(r"(\S+) : tie\.Need-([^\s]+)", lines[0]) or re.match(r"(\S+) :\n\s+tie\.Need-([^\s]+)", b2)
+        if m:
+            label, old = m.group(1), m.group(2)
+            i = 1
+            opened = ""
+            while i < len(lines) and not re.match(re.escape(label) + r"(\s|$)", lines[i]):
+                if lines[i].startswith("unfolding"):
+                    opened = lines[i]
+                i += 1
+            answers.append((label, old, opened, "\n".join(lines[i:]), note))
+            continue
+        m = re.match(r"(?:abbrev )?(?:pub )?(\S+) : tie\.(invariant|decreases)-(\S+)", lines[0])
+        if m:
+            label, kind, loop = m.groups()
+            i = 1
+            opened = ""
+            while i < len(lines) and not re.match(re.escape(label) + r"(\s|$)", lines[i]):
+                if lines[i].startswith("unfolding"):
+                    opened = lines[i]
+                i += 1
+            invariants.append((label, kind, loop, opened, "\n".join(lines[i:]), note))
+            continue
+        if re.match(r"(?:pub )?\S+_spec : ", lines[0]) or re.match(r"(?:pub )?\S+-spec : ", lines[0]):
+            continue
+        helpers.append("\n".join(note + [b2]) if note else b2)
+    uses = [u for u in uses if not re.search(r"\.(Statement\.\{statement\}|Tie as tie)$", u) and ".Author.Rules." not in u]
+    out = []
+    for label, old, opened, body, note in answers:
+        body_text = body[len(label):]
+        m = re.match(r"\s+(c|_)((?: κs| _)?)\s*=\s*", body_text)
+        if not m:
+            said.append(f"{fn}: form of {label}: {body_text[:60]!r}")
+            continue
+        term = body_text[m.end():]
+        if term.strip() in ("search rules", "search needs"):
+            continue
+        key = old if old in names.needs else None
+        if key is None:
+            # the scripts gave it a word of today's before the rest was known
+            for k, (n, pl) in names.needs.items():
+                if re.sub(r"^(overflow|bounds|nonzero|slice|enum|cond|get|set)[-_]", "", n) == old or "overflow-" + k == old or n.replace("_", "-") == old:
+                    key = k
+                    break
+        if key is None:
+            for k in names.needs:
+                if re.sub(r"^overflow-", "", old) == k or old.replace("-init", "-holds") == k or old.replace("-preserved", "-again") == k or old.replace("-smaller", "-less") == k or old.replace("bounds", "slice") == k:
+                    key = k
+                    break
+        if key is None:
+            done = [s for s in names.settled if s.replace("_", "-") == old or s == old]
+            if done:
+                continue
+            said.append(f"{fn}: no goal for {old}; there are {sorted(names.needs)} settled {sorted(names.settled)}")
+            continue
+        new, place = names.needs[key]
+        term = flat(names, place[0], term, said, f"{fn}.{new}")
+        out.append("\n".join(note + [f"pub {new} : goal.{new}"] + ([opened] if opened else []) + [f"{new} c = {term}" if "\n" not in term and "\n" not in body_text[: m.end()] else f"{new} c =\n    {term.lstrip()}"]))
+    inv = []
+    for label, kind, loop, opened, body, note in invariants:
+        j = body.index("=")
+        args, term = body[len(label):j].split(), body[j + 1:]
+        new = None
+        for old_loop, new_loop in names.loop_names:
+            if old_loop == loop:
+                new = new_loop
+        if new is None:
+            said.append(f"{fn}: no loop {loop}: {names.loop_names}")
+            new = loop
+        # the loop's variables by name
+        for a in sorted(args, key=lambda x: -len(x)):
+            to = ("l.initial." + a[:-1]) if a.endswith("₀") else "l." + a
+            to = to.replace("last-reader", "last_reader").replace("last-writer", "last_writer")
+            term = re.sub(r"(?<![^\s(){}.;,])(?<!\.)" + re.escape(a) + r"(?![^\s(){}.;,])", "\0" + to.replace(".", "\1"), term)
+        term = term.replace("\0", "").replace("\1", ".")
+        inv.append("\n".join(note + [f"abbrev pub {kind}-{new} : goal.{kind}-{new}"] + ([opened] if opened else []) + [f"{kind}-{new} l ={term}"]))
+    os.remove(path)
+    used = "\n".join(helpers + out)
+    if out:
+        with open(os.path.join(folder, "Answers.antt"), "w", encoding="utf-8") as f:
+            f.write("\n".join(head + prune(uses, used) + [f"use Rattle.{crate}.proofs.{fn.replace('::', '.')}.Goals as goal", ""]) + "\n" + "\n\n".join(helpers + out) + "\n")
+    if inv:
+        with open(os.path.join(folder, "Invariants.antt"), "w", encoding="utf-8") as f:
+            f.write("\n".join((head if not out else head) + prune(uses, "\n".join(inv)) + [f"use Rattle.{crate}.proofs.{fn.replace('::', '.')}.Given as goal", ""]) + "\n" + "\n\n".join(inv) + "\n")
+    elif not out and not os.listdir(folder):
+        os.rmdir(folder)
+
+
+def prune(uses, text):
+    """The imports that the text cites."""
+    kept = []
+    words = set(re.findall(r"[^\s(){}.;,@\"«»\[\]|]+", text))
+    for u in uses:
+        m = re.match(r"use (\S+?)\.\{(.*)\}$", u)
+        if not m:
+            kept.append(u)
+            continue
+        names = []
+        for n in m.group(2).split(", "):
+            plain = n.split(" as ")[-1].strip()
+            bare = plain.replace("◌", "")
+            if plain in words or bare in words or (plain.startswith("◌") and any(bare in w for w in words)):
+                names.append(n)
+        if names:
+            kept.append(f"use {m.group(1)}.{{{', '.join(names)}}}")
+    return kept
+
+
+def main():
+    crate = sys.argv[1]
+    top = os.path.join("crates", crate)
+    out = tempfile.mkdtemp(prefix="names-")
+    r = subprocess.run(["rt", "check", "--generated", out, "--old-names"], cwd=top, capture_output=True, text=True)
+    f = os.path.join(out, "names.json")
+    if not os.path.exists(f):
+        print(r.stdout[-3000:], r.stderr[-2000:])
+        raise SystemExit(2)
+    with open(f) as g:
+        all_names = json.load(g)
+    with open(f"/tmp/names-{crate}.json", "w") as g:
+        json.dump(all_names, g, ensure_ascii=False, indent=1)
+    said = []
+    for folder, dirs, files in os.walk(os.path.join(top, "proofs")):
+        if "Proof.antt" not in files:
+            continue
+        fn = os.path.relpath(folder, os.path.join(top, "proofs")).replace(os.sep, "::")
+        if sys.argv[2:] and fn not in sys.argv[2:]:
+            continue
+        record = all_names.get(f"Rattle-{crate}-proofs.{fn.replace('::', '.')}.Lts")
+        if record is None:
+            said.append(f"{fn}: not among the generated: {[k for k in all_names if 'Rattle' in k]}")
+            continue
+        names = Names(record)
+        names.loop_names = loops(record)
+        convert(crate, fn, folder, names, said)
+    for s in said:
+        print(s)
+
+
+def loops(record):
+    """The loops by their old and new names."""
+    found = []
+    for (old, new) in record["needs"]:
+        for end_old, end_new in (("-init", "-init"), ("-holds", "-init"), ("-less", "-smaller"), ("-again", "-preserved"), ("-smaller", "-smaller"), ("-preserved", "-preserved")):
+            if old.endswith(end_old) and new.endswith(end_new) and old.startswith("loop"):
+                pair = (old[: -len(end_old)], new[: -len(end_new)])
+                if pair not in found:
+                    found.append(pair)
+    return found
+
+
+main()

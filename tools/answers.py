@@ -47,6 +47,10 @@ class Names:
         return place
 
 
+def alike(x):
+    return x.replace("-", "_")
+
+
 PATH = re.compile(r"(?<![\w.'₀])c((?:\.[^\s(){},;.]+)+)")
 FIXED = ("args", "requires", "ranges", "type_inv", "utf8", "auto")
 
@@ -61,30 +65,41 @@ def flat(names, place, text, said, label):
         alias, is_ = m.group(1), m.group(2)
         text = text[: m.start()] + re.sub(r"(?<![\w.'₀-])" + re.escape(alias) + r"(?=\.)", is_, text[m.end():])
 
+    chain = []
+    at = place
+    while at is not None and at in names.places:
+        chain.append(at)
+        at = names.places[at][0]
+
     def one(m):
         parts = m.group(1)[1:].split(".")
         k = 0
         while k < len(parts) and parts[k] == "before":
             k += 1
         rest = parts[k:]
-        at = names.path(place, k)
-        if at is None or not rest:
+        if not rest:
             said.append(f"{label}: path {m.group(0)} at {place}")
             return m.group(0)
-        # fields of the step of a place, or of one above it
         f = rest[0]
-        where = at
-        parent, step = names.places.get(where, (None, ("", "")))
         if f in FIXED:
             return "c." + ".".join(rest)
-        if f == step[0]:
-            return "c." + ".".join([step[1]] + rest[1:])
-        if f == step[1]:
-            return m.group(0) if k == 0 else "c." + ".".join(rest)
-        said.append(f"{label}: no step {f} at {where} (its own: {step}), of {m.group(0)}")
+        # the step of that name nearest to where the path pointed
+        fits = [i for i, w in enumerate(chain) if alike(names.places[w][1][0]) == alike(f)]
+        if fits:
+            i = min(fits, key=lambda i: abs(i - k))
+            return "c." + ".".join([names.places[chain[i]][1][1]] + rest[1:])
+        # a loop's own step stands under its test's
+        for old, new in names.loop_names:
+            if old == f:
+                return "c." + ".".join([new] + rest[1:])
+        if k == 0 and any(names.places[w][1][1] == f for w in chain):
+            return m.group(0)
+        said.append(f"{label}: no step {f}, of {m.group(0)}; steps {[tuple(names.places[w][1]) for w in chain]}")
         return "c." + ".".join(rest)
 
-    return PATH.sub(one, text)
+    text = PATH.sub(one, text)
+    text = re.sub(r"\.keys[0-9]\b", ".is", text)
+    return re.sub(r"(c\.in_default(?:-[^\s.(){},;]+)?)\.rest\b", r"\1.in_default-own.rest", text)
 
 
 def convert(crate, fn, folder, names, said):
@@ -145,7 +160,7 @@ def convert(crate, fn, folder, names, said):
         if re.match(r"(?:pub )?\S+_spec : ", lines[0]) or re.match(r"(?:pub )?\S+-spec : ", lines[0]):
             continue
         helpers.append("\n".join(note + [b2]) if note else b2)
-    uses = [u for u in uses if not re.search(r"\.(Statement\.\{statement\}|Tie as tie)$", u) and ".Author.Rules." not in u]
+    uses = [u for u in uses if not re.search(r"\.(Statement\.\{statement\}|Tie as tie)$", u)]
     out = []
     for label, old, opened, body, note in answers:
         body_text = body[len(label):]
@@ -156,20 +171,19 @@ def convert(crate, fn, folder, names, said):
         term = body_text[m.end():]
         if term.strip() in ("search rules", "search needs"):
             continue
-        key = old if old in names.needs else None
-        if key is None:
-            # the scripts gave it a word of today's before the rest was known
-            for k, (n, pl) in names.needs.items():
-                if re.sub(r"^(overflow|bounds|nonzero|slice|enum|cond|get|set)[-_]", "", n) == old or "overflow-" + k == old or n.replace("_", "-") == old:
-                    key = k
-                    break
+        key = None
+        for k, (n, pl) in names.needs.items():
+            if alike(k) == alike(old) or alike(n) == alike(old):
+                key = k
+                break
         if key is None:
             for k in names.needs:
-                if re.sub(r"^overflow-", "", old) == k or old.replace("-init", "-holds") == k or old.replace("-preserved", "-again") == k or old.replace("-smaller", "-less") == k or old.replace("bounds", "slice") == k:
+                o = alike(old)
+                if alike(k) in (re.sub("^(overflow|bounds|nonzero|slice|enum)_", "", o), o.replace("_init", "_holds"), o.replace("_preserved", "_again"), o.replace("_smaller", "_less")):
                     key = k
                     break
         if key is None:
-            done = [s for s in names.settled if s.replace("_", "-") == old or s == old]
+            done = [s for s in names.settled if alike(s) == alike(old)]
             if done:
                 continue
             said.append(f"{fn}: no goal for {old}; there are {sorted(names.needs)} settled {sorted(names.settled)}")
@@ -247,7 +261,8 @@ def main():
         fn = os.path.relpath(folder, os.path.join(top, "proofs")).replace(os.sep, "::")
         if sys.argv[2:] and fn not in sys.argv[2:]:
             continue
-        record = all_names.get(f"Rattle-{crate}-proofs.{fn.replace('::', '.')}.Lts")
+        stem = f"Rattle-{crate}-proofs.{fn.replace('::', '.')}.Lts"
+        record = all_names.get(stem) or next((v for k, v in all_names.items() if k.startswith(stem + "-")), None)
         if record is None:
             said.append(f"{fn}: not among the generated: {[k for k in all_names if 'Rattle' in k]}")
             continue

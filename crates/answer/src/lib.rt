@@ -5,10 +5,10 @@ ghost use Rattle.std.specs.Prelude.{◌≡◌};
 ghost use Rattle.answer.specs.Number.{settled_number};
 ghost use Rattle.answer.specs.NameOf.{names_of, pair_of};
 ghost use Rattle.answer.specs.Word.{byte_of, four_bytes, packed};
-ghost use Rattle.answer.specs.Word.{word as Word·word};
+ghost use Rattle.answer.specs.Word.{word};
 
 // The names of a broken rule: a case for each rule's row of the table, with no number for "none".
-#[derive(Drop)]
+#[derive(Clone, Copy)]
 pub enum Names {
     // 21, 23: reader, writer, address
     Row(u8, u8, u8),
@@ -23,20 +23,20 @@ pub enum Names {
 }
 
 // What a rule finds: nothing, or its number and its names.
-#[derive(Drop)]
+#[derive(Clone, Copy)]
 pub enum Rule {
     Kept,
     Breach(u8, Names),
 }
 
 // Whether a consistent sheet has an unsettled pair, and the lowest.
-#[derive(Drop)]
+#[derive(Clone, Copy)]
 pub enum Settled {
     Orderly,
     Unsettled(u8, u8),
 }
 
-#[derive(Drop)]
+#[derive(Clone, Copy)]
 pub enum Answer {
     // the refusal's number, and the place
     Refused(u8, u32),
@@ -46,14 +46,14 @@ pub enum Answer {
 }
 
 // One of the four places of an answer's names.
-#[derive(Drop)]
+#[derive(Clone, Copy)]
 pub enum Name {
     Number(u8),
     None,
 }
 
 // The four places, in the order of the line and of the word.
-#[derive(Drop)]
+#[derive(Clone, Copy)]
 pub struct Four(pub Name, pub Name, pub Name, pub Name);
 
 // The names of a broken rule, each in its place.
@@ -130,7 +130,7 @@ pub fn four_bytes(f: Four) -> u32
 
 // kind * 2^40 + number * 2^32 + rest: the word of every entry
 pub fn word(kind: u8, number: u8, rest: u32) -> u64
-    ensures { result ≡ Word·word kind number rest }
+    ensures { result ≡ word kind number rest }
 {
     kind as u64 * 1099511627776 + number as u64 * 4294967296 + rest as u64
 }

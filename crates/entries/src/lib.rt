@@ -12,7 +12,7 @@ use format::{Head, Pair, Row, Shape, field};
 use sizes::PAIR_BYTES;
 
 // How much a sheet holds: its head, how many inits and events, rows and pairs, and the places of the first row and the first pair.
-#[derive(Drop)]
+#[derive(Clone, Copy)]
 pub struct Counts {
     pub head: Head,
     pub inits: u8,

@@ -38,6 +38,7 @@ lookup_mem (a ∷ l) n t = go (covers a.shape n) t (lookup_mem l n)
 -- an access of an event covers a byte; so does the access at that byte
 found_covers : (l : List Access) (a : Access) (k : ℕ) → Memᴰ a l → T (covers a.shape k) → T (covers (lookup l k).shape k)
 unfolding lookup
+found_covers [] a k m h = elim m [ ]
 found_covers (b ∷ l) a k m h = go (covers b.shape k) refl m (λ n. found_covers l a k n h)
   where
     go : (c : Bool) → covers b.shape k ≡ c → Memᴰ a (b ∷ l) → (Memᴰ a l → T (covers (lookup l k).shape k)) → T (covers (cond c b (lookup l k)).shape k)

@@ -19,7 +19,7 @@ pub const MAX_OTHERS: u8 = 18;
 pub const MAX_PAIRS: u16 = 32;
 
 // The shape of an access: all of it but its bytes. tear: 0 may tear, 1 tear-free.
-#[derive(Drop)]
+#[derive(Clone, Copy)]
 pub struct Shape {
     pub kind: u8,
     pub mode: u8,
@@ -28,21 +28,21 @@ pub struct Shape {
     pub tear: u8,
 }
 
-#[derive(Drop)]
+#[derive(Clone, Copy)]
 pub struct Head {
     pub edition: u8,
     pub agents: u8,
     pub size: u8,
 }
 
-#[derive(Drop)]
+#[derive(Clone, Copy)]
 pub struct Row {
     pub reader: u8,
     pub address: u8,
     pub writer: u8,
 }
 
-#[derive(Drop)]
+#[derive(Clone, Copy)]
 pub struct Pair {
     pub first: u8,
     pub second: u8,

@@ -24,7 +24,7 @@ use sets::SLOTS;
 const NUMBERS: usize = PAIRS * SLOTS;
 
 // The answer: all bars together leave an order; how many are kept; the buffer can't hold the kept list; the inputs do not fit.
-#[derive(Drop)]
+#[derive(Clone, Copy)]
 pub enum Finding {
     Order,
     Bars(u32),

@@ -13,7 +13,7 @@ use entries::Counts;
 use format::{Row, Shape};
 
 // The lowest event with a read byte that has no row, if there is one.
-#[derive(Drop)]
+#[derive(Clone, Copy)]
 pub enum Lack {
     Nothing,
     Event(u8),

@@ -13,7 +13,7 @@ use entries::Counts;
 use sheet::{Reading, reader};
 use sizes::PAIR_BYTES;
 
-#[derive(Drop)]
+#[derive(Clone, Copy)]
 pub enum Lent {
     // by number and place; 15 with the number of the first buffer that is too short: 0 head, 1 events, 2 data, 3 rows, 4 pairs
     Refused(u8, u32),

@@ -16,7 +16,7 @@ use sets::SLOTS;
 use sheet::Reading;
 use tables::{COLUMNS, ROW_CELLS};
 
-#[derive(Drop)]
+#[derive(Clone, Copy)]
 pub enum Reply {
     // the refusal's number, and the place
     Refused(u8, u32),

@@ -19,7 +19,7 @@ use tables::{ACCESSES, COLUMNS, ROW_CELLS, ROWS};
 const LONGEST: usize = 4294967295;
 
 // What is wrong with a list. A place is an index in the list.
-#[derive(Drop)]
+#[derive(Clone, Copy)]
 pub enum Fault {
     // its length, as far as 32 bits hold it
     WrongLength(u32),
@@ -31,7 +31,7 @@ pub enum Fault {
     Barred(u8, u8, u8, u8),
 }
 
-#[derive(Drop)]
+#[derive(Clone, Copy)]
 pub enum Said {
     Accepted,
     Rejected(Fault),

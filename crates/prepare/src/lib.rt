@@ -18,7 +18,7 @@ use sets::SLOTS;
 use tables::{COLUMNS, PAIR_CELLS, ROW_CELLS};
 
 // The first broken rule; where there is none, how many bars are listed, `LIST` where the list is not all.
-#[derive(Drop)]
+#[derive(Clone, Copy)]
 pub struct Found {
     pub rule: Rule,
     pub count: usize,

@@ -11,7 +11,7 @@ use gather::PAIRS;
 use sets::SLOTS;
 
 // The number of the sets that can be built from that of the inits, or that it is over a limit.
-#[derive(Drop)]
+#[derive(Clone, Copy)]
 pub enum Count {
     All(usize),
     Over,

@@ -7,7 +7,7 @@ use spot::Tally;
 
 pub mod reader;
 
-#[derive(Drop)]
+#[derive(Clone, Copy)]
 pub enum Reading {
     // by number and place
     Refused(u8, u32),
@@ -16,7 +16,7 @@ pub enum Reading {
 
 // How far the fields go: to a fault, by number and place, or to the end, where the number is 0; with the last tag, the counts and the tally. No enum: of
 // one whose cases lie over each other the compiler keeps the counts in memory.
-#[derive(Drop)]
+#[derive(Clone, Copy)]
 pub struct Scan {
     pub number: u8,
     pub place: u32,
@@ -26,7 +26,7 @@ pub struct Scan {
 }
 
 // The reader's outcome: the sheet's counts, and the place of each event's tag.
-#[derive(Drop)]
+#[derive(Clone, Copy)]
 pub struct Outcome {
     pub reading: Reading,
     pub counts: Counts,
@@ -34,7 +34,7 @@ pub struct Outcome {
 }
 
 // What was read: a refusal, or a whole sheet with its counts.
-#[derive(Drop)]
+#[derive(Clone, Copy)]
 pub struct Read {
     pub reading: Reading,
     pub counts: Counts,

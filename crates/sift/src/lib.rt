@@ -34,7 +34,7 @@ const NEAR: usize = 64;
 const BYTES: usize = 72;
 
 // What a pass finds: `clean` says that no rule of 22 to 25 is broken and that the list is worth something; `count` is the number of its entries.
-#[derive(Drop)]
+#[derive(Clone, Copy)]
 pub struct Sifted {
     pub clean: bool,
     pub count: usize,
@@ -42,7 +42,7 @@ pub struct Sifted {
 
 // What first accesses are: sets of events. `far` has those of which more is to be known than the eight bytes from the start on, by their places among
 // 64; `sc` those that write sc, `writers` those that write. `seconds` is 0 where no event has a second access.
-#[derive(Drop)]
+#[derive(Clone, Copy)]
 pub struct Noted {
     pub far: u32,
     pub sc: u32,

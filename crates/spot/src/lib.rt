@@ -14,14 +14,14 @@ use format::{Head, Shape, field};
 use sets::SLOTS;
 
 // What the events so far come to: how many bytes they read, and their agents as a set.
-#[derive(Drop)]
+#[derive(Clone, Copy)]
 pub struct Tally {
     pub bytes: u16,
     pub agents: u32,
 }
 
 // Where the reader stands: at a place, behind a field with the tag `last` (0 for none), with the counts and the tally so far.
-#[derive(Drop)]
+#[derive(Clone, Copy)]
 pub struct Spot {
     pub p: u16,
     pub last: u8,

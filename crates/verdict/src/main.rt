@@ -10,7 +10,7 @@ ghost use Rattle.verdict.specs.Reading.{Within};
 use libc::{STDERR_FILENO, STDIN_FILENO, STDOUT_FILENO};
 
 // What reading comes to: the sheet's length, or a read that failed.
-#[derive(Drop)]
+#[derive(Clone, Copy)]
 enum Got {
     Sheet(usize),
     Failed,

@@ -22,7 +22,7 @@ use sets::SLOTS;
 use sheet::Reading;
 use tables::{COLUMNS, ROW_CELLS};
 
-#[derive(Drop)]
+#[derive(Clone, Copy)]
 pub enum Explanation {
     // the refusal's number, and the place; 16 is `Small`
     Refused(u8, u32),

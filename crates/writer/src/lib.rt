@@ -14,7 +14,7 @@ use format::field::FIELD_BYTES;
 use format::{MAX_BYTES, field};
 use sheet::{Reading, reader};
 
-#[derive(Drop)]
+#[derive(Clone, Copy)]
 pub enum Written {
     // by number, and the index in the list at fault
     Refused(u8, u32),

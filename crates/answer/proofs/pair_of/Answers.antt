@@ -1,0 +1,8 @@
+-- `answer::pair_of` meets its contract: in each arm the case is known, and both sides compute. Assumes nothing.
+use Rattle.answer.proofs.pair_of.Goals as goal
+
+pub returns-in-Orderly : goal.returns-in-Orderly
+returns-in-Orderly c = rw c.enum_told-1.given.1
+
+pub returns-in-Unsettled : goal.returns-in-Unsettled
+returns-in-Unsettled c = rw c.s-1.given.1

@@ -1,0 +1,8 @@
+-- `format::field::byte` meets its contract: past the end the list's default. Assumes nothing.
+use mathlib.Core.Path.{sym}
+use borrow.Author.Rules.{rules}
+use lib.ListN.{get_or-eq_default}
+use Rattle.format.proofs.field.byte.Goals as goal
+
+pub returns-else-at-s : goal.returns-else-at-s
+returns-else-at-s c = sym (get_or-eq_default c.args.s.now 0 {n = c.args.at} (search rules))

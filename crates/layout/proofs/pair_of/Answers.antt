@@ -1,0 +1,5 @@
+-- `layout::pair_of` meets its contract by what the bytes are. Assumes nothing.
+use Rattle.layout.proofs.pair_of.Goals as goal
+
+pub returns : goal.returns
+returns c = simp (c.byte.ensures, c.byte-2.ensures)

@@ -98,6 +98,10 @@ def flat(names, place, text, said, label):
         return "c." + ".".join(rest)
 
     text = PATH.sub(one, text)
+    # the test of an `if !x` says today what x is
+    not_ = r"not-(?:true|false) _ (c\.if-not-[^\s(){},;]+?\.(?:true|false))(?![\w.-])"
+    text = re.sub(r"\(" + not_ + r"\)", r"\1", text)
+    text = re.sub(not_, r"\1", text)
     text = re.sub(r"\.keys[0-9]\b", ".is", text)
     return re.sub(r"(c\.in_default(?:-[^\s.(){},;]+)?)\.rest\b", r"\1.in_default-own.rest", text)
 

@@ -168,7 +168,7 @@ def convert(crate, fn, folder, names, said):
     out = []
     for label, old, opened, body, note in answers:
         body_text = body[len(label):]
-        m = re.match(r"\s+(c|_)((?: κs| _)?)\s*=\s*", body_text)
+        m = re.match(r"\s+(c|_)((?: [^\s=]+)*)\s*=\s*", body_text)
         if not m:
             said.append(f"{fn}: form of {label}: {body_text[:60]!r}")
             continue
@@ -193,8 +193,13 @@ def convert(crate, fn, folder, names, said):
             said.append(f"{fn}: no goal for {old}; there are {sorted(names.needs)} settled {sorted(names.settled)}")
             continue
         new, place = names.needs[key]
+        more = " ".join(x for x in m.group(2).split() if x not in ("κs", "_"))
+        if more:
+            new_head = f"{new} c {more}"
+        else:
+            new_head = f"{new} c"
         term = flat(names, place[0], term, said, f"{fn}.{new}")
-        out.append("\n".join(note + [f"pub {new} : goal.{new}"] + ([opened] if opened else []) + [f"{new} c = {term}" if "\n" not in term and "\n" not in body_text[: m.end()] else f"{new} c =\n    {term.lstrip()}"]))
+        out.append("\n".join(note + [f"pub {new} : goal.{new}"] + ([opened] if opened else []) + [f"{new_head} = {term}" if "\n" not in term and "\n" not in body_text[: m.end()] else f"{new_head} =\n    {term.lstrip()}"]))
     inv = []
     for label, kind, loop, opened, body, note in invariants:
         j = body.index("=")

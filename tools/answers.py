@@ -33,9 +33,10 @@ class Names:
         self.needs = {old: (new, place) for (old, new), place in zip(record["needs"], record["asked_at"])}
         self.new_needs = {new: (new, place) for (old, new), place in zip(record["needs"], record["asked_at"])}
         self.settled = set(record["settled"])
-        self.places = {}
+        self.places, self.callees = {}, {}
         for name, parent, step, callee, extra in record["places"]:
             self.places[name] = (parent, step)
+            self.callees[name] = callee
         self.loops = record["loops"]
         self.record = record
 
@@ -87,6 +88,14 @@ def flat(names, place, text, said, label):
         fits = [i for i, w in enumerate(chain) if alike(names.places[w][1][0]) == alike(f)]
         if fits:
             i = min(fits, key=lambda i: abs(i - k))
+            # what a `&mut` argument holds after a call, by the parameter's name
+            if len(rest) > 2 and rest[1] == "new" and rest[2] in ("0", "1"):
+                given = names.record["params"].get(names.callees.get(chain[i]))
+                n = 2
+                while n < len(rest) and rest[n] == "1":
+                    n += 1
+                if given and n < len(rest) and rest[n] == "0" and n - 2 < len(given):
+                    rest = rest[:2] + [given[n - 2]] + rest[n + 1:]
             return "c." + ".".join([names.places[chain[i]][1][1]] + rest[1:])
         # a loop's own step stands under its test's
         for old, new in names.loop_names:

@@ -15,9 +15,9 @@ pub loop-i-preserved : goal.loop-i-preserved
 loop-i-preserved c =
     let a = c.args in
     let l = c.loop-i in
-    let p = subst (λ (r : ℕ). Presses a.k a.m (AtEach a.m (r % slots) (c.wide-writer.result % slots) (get_or a.between.now l.i 0)) l.f c.press_entry.new.1.1.1.1.1.0) c.wide-reader.ensures c.press_entry.ensures in
+    let p = subst (λ (r : ℕ). Presses a.k a.m (AtEach a.m (r % slots) (c.wide-writer.result % slots) (get_or a.between.now l.i 0)) l.f c.press_entry.new.f) c.wide-reader.ensures c.press_entry.ensures in
     presses_listed a.m a.k a.before.now a.between.now a.readers.now a.writers.now a.n l.i c.requires.2 c.loop-i-test.true
-    (subst (λ (w : ℕ). Presses a.k a.m (AtEach a.m (get_or a.readers.now l.i 0 % slots) (w % slots) (get_or a.between.now l.i 0)) l.f c.press_entry.new.1.1.1.1.1.0) c.wide-writer.ensures p)
+    (subst (λ (w : ℕ). Presses a.k a.m (AtEach a.m (get_or a.readers.now l.i 0 % slots) (w % slots) (get_or a.between.now l.i 0)) l.f c.press_entry.new.f) c.wide-writer.ensures p)
     l.invariant
 
 pub shape_of-f : goal.shape_of-f

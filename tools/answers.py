@@ -52,6 +52,7 @@ def alike(x):
     return x.replace("-", "_")
 
 
+WORD = re.compile(r"[^\s(){}.;,@\"«»\[\]|]+")
 PATH = re.compile(r"(?<![\w.'₀])c((?:\.[^\s(){},;.]+)+)")
 FIXED = ("args", "requires", "ranges", "type_inv", "utf8", "auto")
 
@@ -110,7 +111,7 @@ def flat(names, place, text, said, label):
 
     text = PATH.sub(one, text)
     # the test of an `if !x` says today what x is
-    not_ = r"not-(?:true|false) _ (c\.if-not-[^\s(){},;]+?\.(?:true|false))(?![\w.-])"
+    not_ = r"not-(?:true|false) (?:_|c(?:\.[\w-]+)+) (c\.if-not-[^\s(){},;]+?\.(?:true|false))(?![\w.-])"
     text = re.sub(r"\(" + not_ + r"\)", r"\1", text)
     text = re.sub(not_, r"\1", text)
     text = re.sub(r"\.keys[0-9]\b", ".is", text)
@@ -230,13 +231,34 @@ def convert(crate, fn, folder, names, said):
         term = term.replace("\0", "").replace("\1", ".")
         inv.append("\n".join(note + [f"abbrev pub {kind}-{new} : goal.{kind}-{new}"] + ([opened] if opened else []) + [f"{kind}-{new} l ={term}"]))
     os.remove(path)
+    # what an invariant cites of the file's own stands beside it, and the answers cite it from there
+    at_inv, shared = [], []
+    wanted = set(WORD.findall("\n".join(inv)))
+    again = True
+    while again:
+        again = False
+        for h in helpers:
+            m = re.search(r"(?m)^(?:abbrev )?(?:pub )?([^\s-][^\s]*) :", h)
+            if m and m.group(1) in wanted and h not in at_inv:
+                at_inv.append(h)
+                shared.append(m.group(1))
+                wanted |= set(WORD.findall(h))
+                again = True
+    at_inv = [re.sub(r"(?m)^(abbrev )?(?:pub )?(" + re.escape(n) + r" :)", r"\1pub \2", h) for n, h in zip(shared, at_inv)]
+    at_inv = [h for _, h in sorted(zip([next(i for i, x in enumerate(helpers) if re.search(r"(?m)^(?:abbrev )?(?:pub )?" + re.escape(n) + " :", x)) for n in shared], at_inv))]
+    helpers = [h for h in helpers if not any(re.search(r"(?m)^(?:abbrev )?(?:pub )?" + re.escape(n) + " :", h) for n in shared)]
+    inv = at_inv + inv
     used = "\n".join(helpers + out)
+    cited = [n for n in shared if n in set(WORD.findall(used))]
+    inv_uses = uses
+    if cited and out:
+        uses = uses + [f"use Rattle.{crate}.proofs.{fn.replace('::', '.')}.Invariants.{{{', '.join(cited)}}}"]
     if out:
         with open(os.path.join(folder, "Answers.antt"), "w", encoding="utf-8") as f:
             f.write("\n".join(head + prune(uses, used) + [f"use Rattle.{crate}.proofs.{fn.replace('::', '.')}.Goals as goal", ""]) + "\n" + "\n\n".join(helpers + out) + "\n")
     if inv:
         with open(os.path.join(folder, "Invariants.antt"), "w", encoding="utf-8") as f:
-            f.write("\n".join((head if not out else head) + prune(uses, "\n".join(inv)) + [f"use Rattle.{crate}.proofs.{fn.replace('::', '.')}.Given as goal", ""]) + "\n" + "\n\n".join(inv) + "\n")
+            f.write("\n".join((head if not out else head) + prune(inv_uses, "\n".join(inv)) + [f"use Rattle.{crate}.proofs.{fn.replace('::', '.')}.Given as goal", ""]) + "\n" + "\n\n".join(inv) + "\n")
     elif not out and not os.listdir(folder):
         os.rmdir(folder)
 

@@ -118,7 +118,52 @@ def flat(names, place, text, said, label):
     return re.sub(r"(c\.in_default(?:-[^\s.(){},;]+)?)\.rest\b", r"\1.in_default-own.rest", text)
 
 
+TURNS = {"<": ("lt-ltb", "le-ltb"), "<=": ("le-leb", "lt-leb"), "==": ("eq-eqb", "ne_eqb")}
+
+
+def compared(crate, fn):
+    """The names that a function gives to comparisons of numbers, `let short = a < b;`, with the lemmas that turn their tests into equations of `Bool`s."""
+    found = {}
+    for file in sorted(os.listdir(os.path.join("crates", crate, "src"))):
+        with open(os.path.join("crates", crate, "src", file), encoding="utf-8") as f:
+            text = f.read()
+        m = re.search(r"\bfn " + re.escape(fn.split("::")[-1].lstrip("+")) + r"\b(.*?)(?=\n(?:pub )?fn |\Z)", text, re.S)
+        if not m:
+            continue
+        for name, term in re.findall(r"let (?:mut )?(\w+) = ([^;]*);", m.group(1)):
+            bare = term
+            while True:
+                less = re.sub(r"\([^()]*\)|\[[^\[\]]*\]", "", bare)
+                if less == bare:
+                    break
+                bare = less
+            ops = re.findall(r"(?<![<>=!])(<=|>=|<|>|==|!=)(?![<>=])|([&|])", bare)
+            if len(ops) == 1 and ops[0][0] in TURNS:
+                found[name] = TURNS[ops[0][0]]
+    return found
+
+
+def turned(term, given):
+    """Where the old proof had an equation of `Bool`s, today's step tells the order or the equality itself."""
+    used = set()
+    for name, (yes, no) in given.items():
+        for step, (of_true, of_false) in ((f"c.if-{name}", (yes, no)), (f"c.if-not-{name}", (no, yes))):
+            for field, lemma in (("true", of_true), ("false", of_false)):
+                at = re.escape(f"{step}.{field}") + r"(?![\w.-])"
+                # what turned it back
+                term = re.sub(r"\((?:ltb|leb|eqb)-(?:true|false) _ _ (" + at + r")\)", r"\1\0", term)
+                term = re.sub(r"(?:ltb|leb|eqb)-(?:true|false) _ _ (" + at + r")", r"\1\0", term)
+                if re.search(at + r"(?!\0)", term):
+                    used.add(lemma)
+                    term = re.sub(r"\((" + at + r")\)", r"\1", term)
+                    term = re.sub(r"(" + at + r")(?!\0)", f"({lemma} _ _ \\1)", term)
+                term = term.replace("\0", "")
+    return term, used
+
+
 def convert(crate, fn, folder, names, said):
+    given = compared(crate, fn)
+    turns = set()
     path = os.path.join(folder, "Proof.antt")
     with open(path, encoding="utf-8") as f:
         text = f.read()
@@ -211,6 +256,8 @@ def convert(crate, fn, folder, names, said):
         else:
             new_head = f"{new} c"
         term = flat(names, place[0], term, said, f"{fn}.{new}")
+        term, more_turns = turned(term, given)
+        turns |= more_turns
         out.append("\n".join(note + [f"pub {new} : goal.{new}"] + ([opened] if opened else []) + [f"{new_head} = {term}" if "\n" not in term and "\n" not in body_text[: m.end()] else f"{new_head} =\n    {term.lstrip()}"]))
     inv = []
     for label, kind, loop, opened, body, note in invariants:
@@ -231,6 +278,8 @@ def convert(crate, fn, folder, names, said):
         term = term.replace("\0", "").replace("\1", ".")
         inv.append("\n".join(note + [f"abbrev pub {kind}-{new} : goal.{kind}-{new}"] + ([opened] if opened else []) + [f"{kind}-{new} l ={term}"]))
     os.remove(path)
+    if turns:
+        uses = uses + [f"use borrow.Author.Tests.{{{', '.join(sorted(turns))}}}"]
     # what an invariant cites of the file's own stands beside it, and the answers cite it from there
     at_inv, shared = [], []
     wanted = set(WORD.findall("\n".join(inv)))

@@ -33,9 +33,10 @@ class Names:
         self.needs = {old: (new, place) for (old, new), place in zip(record["needs"], record["asked_at"])}
         self.new_needs = {new: (new, place) for (old, new), place in zip(record["needs"], record["asked_at"])}
         self.settled = set(record["settled"])
-        self.places = {}
+        self.places, self.callees = {}, {}
         for name, parent, step, callee, extra in record["places"]:
             self.places[name] = (parent, step)
+            self.callees[name] = callee
         self.loops = record["loops"]
         self.record = record
 
@@ -85,8 +86,18 @@ def flat(names, place, text, said, label):
             return "c." + ".".join(rest)
         # the step of that name nearest to where the path pointed
         fits = [i for i, w in enumerate(chain) if alike(names.places[w][1][0]) == alike(f)]
+        if not fits and alike(f).endswith("_lem"):
+            fits = [i for i, w in enumerate(chain) if alike(names.places[w][1][0]) == alike(f)[:-4]]
         if fits:
             i = min(fits, key=lambda i: abs(i - k))
+            # what a `&mut` argument holds after a call, by the parameter's name
+            if len(rest) > 2 and rest[1] == "new" and rest[2] in ("0", "1"):
+                given = names.record["params"].get(names.callees.get(chain[i]))
+                n = 2
+                while n < len(rest) and rest[n] == "1":
+                    n += 1
+                if given and n < len(rest) and rest[n] == "0" and n - 2 < len(given):
+                    rest = rest[:2] + [given[n - 2]] + rest[n + 1:]
             return "c." + ".".join([names.places[chain[i]][1][1]] + rest[1:])
         # a loop's own step stands under its test's
         for old, new in names.loop_names:
@@ -98,6 +109,10 @@ def flat(names, place, text, said, label):
         return "c." + ".".join(rest)
 
     text = PATH.sub(one, text)
+    # the test of an `if !x` says today what x is
+    not_ = r"not-(?:true|false) _ (c\.if-not-[^\s(){},;]+?\.(?:true|false))(?![\w.-])"
+    text = re.sub(r"\(" + not_ + r"\)", r"\1", text)
+    text = re.sub(not_, r"\1", text)
     text = re.sub(r"\.keys[0-9]\b", ".is", text)
     return re.sub(r"(c\.in_default(?:-[^\s.(){},;]+)?)\.rest\b", r"\1.in_default-own.rest", text)
 
@@ -164,7 +179,7 @@ def convert(crate, fn, folder, names, said):
     out = []
     for label, old, opened, body, note in answers:
         body_text = body[len(label):]
-        m = re.match(r"\s+(c|_)((?: κs| _)?)\s*=\s*", body_text)
+        m = re.match(r"\s+(c|_)((?: [^\s=]+)*)\s*=\s*", body_text)
         if not m:
             said.append(f"{fn}: form of {label}: {body_text[:60]!r}")
             continue
@@ -189,8 +204,13 @@ def convert(crate, fn, folder, names, said):
             said.append(f"{fn}: no goal for {old}; there are {sorted(names.needs)} settled {sorted(names.settled)}")
             continue
         new, place = names.needs[key]
+        more = " ".join(x for x in m.group(2).split() if x not in ("κs", "_"))
+        if more:
+            new_head = f"{new} c {more}"
+        else:
+            new_head = f"{new} c"
         term = flat(names, place[0], term, said, f"{fn}.{new}")
-        out.append("\n".join(note + [f"pub {new} : goal.{new}"] + ([opened] if opened else []) + [f"{new} c = {term}" if "\n" not in term and "\n" not in body_text[: m.end()] else f"{new} c =\n    {term.lstrip()}"]))
+        out.append("\n".join(note + [f"pub {new} : goal.{new}"] + ([opened] if opened else []) + [f"{new_head} = {term}" if "\n" not in term and "\n" not in body_text[: m.end()] else f"{new_head} =\n    {term.lstrip()}"]))
     inv = []
     for label, kind, loop, opened, body, note in invariants:
         j = body.index("=")

@@ -1,16 +1,15 @@
 -- `placing::next` meets its contract: each event that can be placed leads to a marked set, or is left. The measure is `left`, which gets smaller as a
 -- number. Assumes nothing.
 use mathlib.Core.Path.{sym, ap, ◌∙◌, subst}
-use mathlib.Core.Logic.{⊎_elim}
 use Prim.Native.Nat.{◌%◌}
 use native.Mathlib.Nat.{mod-eq_of_lt}
 use native.Mathlib.Omega.{arith}
-use borrow.Author.Tests.{not-true, not-false}
 use Rattle.sets.specs.Mask.{slots, remove}
 use Rattle.sets.proofs.MaskLaws.{remove_lt}
 use Rattle.marks.specs.Table.{is_marked}
 use Rattle.placing.proofs.PlacingLaws.{looked}
 use Rattle.placing.proofs.UntriedLaws.{Untried, untried_start, untried_lowest, untried_hit, untried_next, untried_end}
+use Rattle.placing.proofs.next.Goals.{then-may+else-not-marked, else-may}
 use Rattle.placing.proofs.next.Goals as goal
 
 pub loop-left-init : goal.loop-left-init
@@ -36,7 +35,7 @@ returns-then-not-marked c =
       bound = omega (arith, w.1);
       place = λ h. (w.3, w.2);
       free = λ h. c.may.ensures.holds c.if-may.true;
-      unseen = λ h. ap (is_marked c.args.table.now) (sym x) ∙ sym c.marked.ensures ∙ not-true _ c.if-not-marked.true;
+      unseen = λ h. ap (is_marked c.args.table.now) (sym x) ∙ sym c.marked.ensures ∙ c.if-not-marked.true;
       tried = untried_hit c.loop-left.invariant c.lowest-e.ensures c.loop-left-test.true;
     }
 
@@ -53,9 +52,10 @@ loop-left-preserved c =
     let z = c.without-left.ensures ∙ ap (remove c.loop-left.left) (mod-eq_of_lt w.2) in
     subst (Untried a.s a.m a.from _ _) (sym z)
     (untried_next c.loop-left.invariant c.lowest-e.ensures c.loop-left-test.true
-    (λ f. ⊎_elim
-    (λ v. ap (is_marked a.table.now) (sym (looked a.s c.lowest-e.result (a.k % slots) w.2 v.1.ensures v.2.ensures)) ∙ sym v.3.ensures ∙ not-false _ v.4.left)
-    (λ v. absurd (c.may.ensures.fails v.left f)) c.if-may.branch))
+    (λ f. elim c.if-may.branch [
+      | then-may+else-not-marked v ↦ ap (is_marked a.table.now) (sym (looked a.s c.lowest-e.result (a.k % slots) w.2 v.with.ensures v.above-x.ensures)) ∙ sym v.marked.ensures ∙ v.if-not-marked.false
+      | else-may v ↦ absurd (c.may.ensures.fails v.if-may.false f)
+    ]))
 
 pub returns : goal.returns
 returns c =

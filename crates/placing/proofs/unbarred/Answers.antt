@@ -3,7 +3,6 @@
 use mathlib.Core.Path.{◌≡◌, sym, ap, ◌∙◌, subst}
 use native.Mathlib.Nat.{mod-eq_of_lt}
 use native.Mathlib.Omega.{arith}
-use borrow.Author.Tests.{not-true, not-false}
 use Rattle.sets.specs.Mask.{remove}
 use Rattle.sets.proofs.TellsLaws.{tells_yes, tells_no}
 use Rattle.sets.proofs.MaskLaws.{remove_lt}
@@ -29,7 +28,7 @@ pub returns-then-not-subset : goal.returns-then-not-subset
 returns-then-not-subset c =
     let at = left_lowest c.loop-left.invariant c.lowest-w.ensures c.loop-left-test.true in
     let is = c.loop-left.invariant.of c.lowest-w.result at.0 in
-    tells_no (λ h. c.subset.ensures.fails (not-true _ c.if-not-subset.true) (h c.lowest-w.result is.0 is.1))
+    tells_no (λ h. c.subset.ensures.fails c.if-not-subset.true (h c.lowest-w.result is.0 is.1))
 
 pub loop-left-smaller : goal.loop-left-smaller
 loop-left-smaller c =
@@ -42,7 +41,7 @@ loop-left-preserved c =
     let at = left_lowest c.loop-left.invariant c.lowest-w.ensures c.loop-left-test.true in
     let a = c.args in
     subst (Left a.bars.now a.writers a.s a.v) (sym (c.without-left.ensures ∙ ap (remove c.loop-left.left) (mod-eq_of_lt at.1)))
-    (left_next c.loop-left.invariant c.lowest-w.result (c.subset.ensures.holds (not-false _ c.if-not-subset.false)))
+    (left_next c.loop-left.invariant c.lowest-w.result (c.subset.ensures.holds c.if-not-subset.false))
 
 pub returns : goal.returns
 returns c = tells_yes (left_end c.loop-left.invariant c.loop-left-test.false)

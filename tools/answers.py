@@ -34,8 +34,11 @@ class Names:
         self.new_needs = {new: (new, place) for (old, new), place in zip(record["needs"], record["asked_at"])}
         self.settled = set(record["settled"])
         self.places, self.callees = {}, {}
+        self.callees = {}
         for name, parent, step, callee, extra in record["places"]:
             self.places[name] = (parent, step)
+            if callee:
+                self.callees[step[1]] = callee
             self.callees[name] = callee
         self.loops = record["loops"]
         self.record = record
@@ -90,6 +93,8 @@ def flat(names, place, text, said, label):
             fits = [i for i, w in enumerate(chain) if alike(names.places[w][1][0]) == alike(f)[:-4]]
         if not fits:  # a number that kept it apart from another field
             fits = [i for i, w in enumerate(chain) if alike(names.places[w][1][0]) == re.sub("[0-9]+$", "", alike(f))]
+        if not fits and f.endswith("_lem"):
+            fits = [i for i, w in enumerate(chain) if alike(names.places[w][1][0]) == alike(f[:-4])]
         if fits:
             i = min(fits, key=lambda i: abs(i - k))
             # what a `&mut` argument holds after a call, by the parameter's name
@@ -115,6 +120,13 @@ def flat(names, place, text, said, label):
     not_ = r"not-(?:true|false) _ (c\.if-not-[^\s(){},;]+?\.(?:true|false))(?![\w.-])"
     text = re.sub(r"\(" + not_ + r"\)", r"\1", text)
     text = re.sub(not_, r"\1", text)
+    # what a call leaves behind a reference goes by the parameter's name
+    def left(m):
+        params = names.record["params"].get(names.callees.get(m.group(2)))
+        k = m.group(3).count(".1")
+        return m.group(0) if not params or k >= len(params) else f"{m.group(1)}.{params[k]}"
+
+    text = re.sub(r"(c\.([^\s.(){},;]+)\.new)((?:\.1)*)\.0(?![\w-])", left, text)
     text = re.sub(r"\.keys[0-9]\b", ".is", text)
     return re.sub(r"(c\.in_default(?:-[^\s.(){},;]+)?)\.rest\b", r"\1.in_default-own.rest", text)
 
@@ -232,13 +244,33 @@ def convert(crate, fn, folder, names, said):
         term = term.replace("\0", "").replace("\1", ".")
         inv.append("\n".join(note + [f"abbrev pub {kind}-{new} : goal.{kind}-{new}"] + ([opened] if opened else []) + [f"{kind}-{new} l ={term}"]))
     os.remove(path)
+    # helpers that the invariants cite stand with them
+    cited, grows = [], True
+    while grows:
+        grows = False
+        for h in helpers:
+            m = re.search(r"^(?:(?:pub|abbrev|unfoldable) )*([^\s(){}:]+) :", h, re.M)
+            if m and h not in cited and re.search(r"(?<![^\s(){}.;,])" + re.escape(m.group(1)) + r"(?![^\s(){}.;,])", "\n".join(inv + cited)):
+                cited.append(h)
+                grows = True
+    if cited:
+        lent = []
+        for i, h in enumerate(cited):
+            m = re.search(r"^((?:(?:pub|abbrev|unfoldable) )*)([^\s(){}:]+) :", h, re.M)
+            lent.append(m.group(2))
+            if "pub" not in m.group(1):
+                cited[i] = h[: m.end(1)] + "pub " + h[m.start(2):]
+        cited = [c for h in helpers for c in cited if c.replace("pub ", "", 1) == h.replace("pub ", "", 1)]
+        helpers = [h for h in helpers if not any(c.replace("pub ", "", 1) == h.replace("pub ", "", 1) for c in cited)]
+        inv = cited + inv
+        uses.append(f"use Rattle.{crate}.proofs.{fn.replace('::', '.')}.Invariants.{{{', '.join(lent)}}}")
     used = "\n".join(helpers + out)
     if out:
         with open(os.path.join(folder, "Answers.antt"), "w", encoding="utf-8") as f:
             f.write("\n".join(head + prune(uses, used) + [f"use Rattle.{crate}.proofs.{fn.replace('::', '.')}.Goals as goal", ""]) + "\n" + "\n\n".join(helpers + out) + "\n")
     if inv:
         with open(os.path.join(folder, "Invariants.antt"), "w", encoding="utf-8") as f:
-            f.write("\n".join((head if not out else head) + prune(uses, "\n".join(inv)) + [f"use Rattle.{crate}.proofs.{fn.replace('::', '.')}.Given as goal", ""]) + "\n" + "\n\n".join(inv) + "\n")
+            f.write("\n".join((head if not out else head) + [u for u in prune(uses, "\n".join(inv)) if ".Invariants.{" not in u] + [f"use Rattle.{crate}.proofs.{fn.replace('::', '.')}.Given as goal", ""]) + "\n" + "\n\n".join(inv) + "\n")
     elif not out and not os.listdir(folder):
         os.rmdir(folder)
 

@@ -3,7 +3,7 @@
 --     Example, examples     an execution, its successors, and what comes: the rule, the bars, the unsettled pair
 --     table_of, rows_of       the tables, filled access by access and row by row
 --     steps_of, model_of      what the steps give over these tables, what the model's definitions give
---     opens                 happens_before would be more than the direct steps
+--     opens                 happens-before would be more than the direct steps
 --     Right                 both give what is stated, and no example opens
 --     Met                   the premise of specs/Steps.antt, for events with two accesses
 -- Assumes nothing.

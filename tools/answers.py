@@ -91,7 +91,7 @@ def flat(names, place, text, said, label):
         if fits:
             i = min(fits, key=lambda i: abs(i - k))
             # what a `&mut` argument holds after a call, by the parameter's name
-            if len(rest) > 2 and rest[1] == "new" and rest[2] in ("0", "1"):
+            if len(rest) > 2 and rest[1] in ("new", "auto") and rest[2] in ("0", "1"):
                 given = names.record["params"].get(names.callees.get(chain[i]))
                 n = 2
                 while n < len(rest) and rest[n] == "1":

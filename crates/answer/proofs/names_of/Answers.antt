@@ -2,16 +2,16 @@
 use Rattle.answer.proofs.names_of.Goals as goal
 
 pub returns-in-Row : goal.returns-in-Row
-returns-in-Row c = rw c.n-1.given.1
+returns-in-Row c = rw c.in-Row.is
 
 pub returns-in-Event : goal.returns-in-Event
-returns-in-Event c = rw c.n-in-Event-1.given.1
+returns-in-Event c = rw c.in-Event.is
 
 pub returns-in-Between : goal.returns-in-Between
-returns-in-Between c = rw c.n-in-Between-1.given.1
+returns-in-Between c = rw c.in-Between.is
 
 pub returns-in-Torn : goal.returns-in-Torn
-returns-in-Torn c = rw c.n-in-Torn-1.given.1
+returns-in-Torn c = rw c.in-Torn.is
 
 pub returns-in-Nobody : goal.returns-in-Nobody
-returns-in-Nobody c = rw c.enum_told-1.given.1
+returns-in-Nobody c = rw c.in-Nobody.is

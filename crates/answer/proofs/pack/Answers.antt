@@ -3,10 +3,10 @@
 use Rattle.answer.proofs.pack.Goals as goal
 
 pub returns-in-Refused : goal.returns-in-Refused
-returns-in-Refused c = rw (c.x-1.given.1, c.word.ensures)
+returns-in-Refused c = rw (c.in-Refused.is, c.word.ensures)
 
 pub returns-in-Broken : goal.returns-in-Broken
-returns-in-Broken c = rw (c.x-in-Broken-1.given.1, c.word-in-Broken.ensures, c.four_bytes.ensures, c.names_of.ensures)
+returns-in-Broken c = rw (c.in-Broken.is, c.word-in-Broken.ensures, c.four_bytes.ensures, c.names_of.ensures)
 
 pub returns-in-Consistent : goal.returns-in-Consistent
-returns-in-Consistent c = rw (c.x-in-Consistent-1.given.1, c.word-in-Consistent.ensures, c.settled_number.ensures, c.four_bytes-in-Consistent.ensures, c.pair_of.ensures)
+returns-in-Consistent c = rw (c.in-Consistent.is, c.word-in-Consistent.ensures, c.settled_number.ensures, c.four_bytes-in-Consistent.ensures, c.pair_of.ensures)

@@ -2,7 +2,7 @@
 use Rattle.answer.proofs.pair_of.Goals as goal
 
 pub returns-in-Orderly : goal.returns-in-Orderly
-returns-in-Orderly c = rw c.enum_told-1.given.1
+returns-in-Orderly c = rw c.in-Orderly.is
 
 pub returns-in-Unsettled : goal.returns-in-Unsettled
-returns-in-Unsettled c = rw c.s-1.given.1
+returns-in-Unsettled c = rw c.in-Unsettled.is

@@ -113,7 +113,7 @@ def flat(names, place, text, said, label):
 
     text = PATH.sub(one, text)
     # the test of an `if !x` says today what x is
-    not_ = r"not-(?:true|false) _ (c\.if-not-[^\s(){},;]+?\.(?:true|false))(?![\w.-])"
+    not_ = r"not-(?:true|false) (?:_|[a-z][^\s(){},;]*) (c\.if-not-[^\s(){},;]+?\.(?:true|false))(?![\w.-])"
     text = re.sub(r"\(" + not_ + r"\)", r"\1", text)
     text = re.sub(not_, r"\1", text)
     # what a call leaves behind a reference goes by the parameter's name

@@ -26,9 +26,9 @@ use Rattle.format.specs.declared.Head.{Head}
 use Rattle.format.specs.declared.Row.{Row}
 use Rattle.format.specs.declared.Pair.{Pair}
 use Rattle.format.specs.Execution.{Execution}
-use Rattle.format.specs.Layout.{edition_of, head_bytes, event_bytes, data_bytes, row_bytes, pair_bytes, agent_of, shape_of, event_of}
+use Rattle.format.specs.Layout.{head_bytes, event_bytes, data_bytes, row_bytes, agent_of, shape_of, event_of}
 use Rattle.content.specs.Content.{head_fits, event_fits, room_for, row_fits, pair_fits}
-use Rattle.parse.specs.Parse.{Parsed, refused, whole, State, place_of, blank, allowed, head_fault, event_fault_by, row_fault, pair_fault, value_fault, value_fault_by, fault_at, fault_by, taken, after, lowest_lacking, finish, fields_from, parse}
+use Rattle.parse.specs.Parse.{Parsed, refused, whole, State, place_of, blank, allowed, head_fault, event_fault_by, row_fault, pair_fault, value_fault, value_fault_by, fault_at, fault_by, taken, after, finish, fields_from, parse}
 use Rattle.parse.proofs.RefusalLaws.{refusal_number}
 use Rattle.parse.proofs.ParseLaws.{Finished, headless, none_reads as no_reads, absent, rowless, complete, finished, at_end, at_fault, at_field}
 use Rattle.parse.proofs.LackLaws.{lacking_there}

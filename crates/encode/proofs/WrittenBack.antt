@@ -4,16 +4,15 @@
 use mathlib.Core.Path.{◌≡◌, refl, sym, ap, ◌∙◌}
 use mathlib.Core.Bool.{Bool, true, false, cond}
 use mathlib.Core.List.{List, [], ◌++◌}
-use Prim.Native.Nat.{ℕ, zero, suc, ◌+◌, ◌<◌}
+use Prim.Native.Nat.{ℕ, zero, suc, ◌<◌}
 use native.Mathlib.Omega.{arith}
 use borrow.Author.Tests.{ltb-true, ltb-false, eqb-true, eqb-false}
 use lib.Dec.{eqb, ltb}
-use lib.ListN.{length, get_or, take}
+use lib.ListN.{length, take}
 use lib.Seq.{take_all}
-use Rattle.basis.specs.Test.{non}
 use Rattle.format.specs.Limits.{max_bytes}
 use Rattle.format.specs.Execution.{Execution}
-use Rattle.format.specs.Field.{tag_at, length_at, next_at, value_at}
+use Rattle.format.specs.Field.{tag_at, next_at, value_at}
 use Rattle.format.specs.Layout.{edition_of, head_bytes, row_bytes, pair_bytes, head_of, event_of, row_of, pair_of}
 use Rattle.parse.specs.Parse.{refused, whole, State, blank, head_fault, fault_at, taken, after, fields_from, parse}
 use Rattle.parse.proofs.ParseLaws.{no_fault_non, inside, value_length, was_none, was_2, was_3, was_4, known, head_clean, event_clean, row_length, pair_length, finished_whole, not_whole, at_end, at_fault, at_field}

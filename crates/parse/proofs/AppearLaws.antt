@@ -10,7 +10,7 @@ use Prim.Native.Nat.{ℕ, ◌≤◌}
 use native.Mathlib.Omega.{arith}
 use borrow.Author.Tests.{eqb-true, eq-eqb}
 use lib.Dec.{T, eqb}
-use Rattle.basis.specs.Test.{non, any, from}
+use Rattle.basis.specs.Test.{non, from}
 use Rattle.basis.proofs.BoolLaws.{decide, non_elim, non_intro, true_T, T_true, T_false, false_T}
 use Rattle.basis.proofs.ListLaws.{from_elim, from_mem, mem_get_or, get_or_mem}
 use Rattle.basis.proofs.LoopLaws.{any_elim, any_intro}

@@ -18,7 +18,7 @@ use borrow.Author.Tests.{eqb-true, eqb-false, eq-eqb, ne_eqb, le-leb, lt-ltb, le
 use lib.Dec.{T, eqb, ltb}
 use lib.ListN.{length, get_or, length-append, get_or-append}
 use lib.Seq.{get_or-append_seam}
-use Rattle.basis.specs.Test.{◌and◌, ◌or◌, non, any, all, number, from}
+use Rattle.basis.specs.Test.{◌or◌, non, any, all, number, from}
 use Rattle.basis.proofs.BoolLaws.{true_T, T_true, or_holds, both_hold, or_second, non_holds}
 use Rattle.basis.proofs.ListLaws.{from_elim, get_or_mem}
 use Rattle.basis.proofs.LoopLaws.{any_at, all_intro, none_intro, number_append, number_snoc}

@@ -20,7 +20,7 @@ use Rattle.format.specs.Field.{field_bytes, next_at, field_place}
 use Rattle.format.specs.Layout.{edition_of, head_bytes, event_bytes, data_bytes, row_bytes, pair_bytes, head_of, agent_of, shape_of, row_of, pair_of}
 use Rattle.content.specs.Content.{within, head_fits, event_fits, room_in, room_for, row_fits, pair_fits}
 use Rattle.content.proofs.ContentLaws.{not_within}
-use Rattle.parse.specs.Parse.{allowed, head_fault, event_fault, event_fault_by, row_fault, pair_fault, value_fault, value_fault_by, fault_at, fault_by}
+use Rattle.parse.specs.Parse.{allowed, head_fault, event_fault, event_fault_by, row_fault, pair_fault, value_fault, value_fault_by, fault_by}
 use Rattle.parse.specs.Refusal.{state_no, fault_no, value_no, so_far, tag_no, WrongTag, unknown, falling, second_head, no_head_lem, Blames, cut, tag, long, of_head, of_event, of_row, of_pair, one_init_more, one_other_more, one_pair_more}
 
 -- the tag before field number k, 0 where it is the first

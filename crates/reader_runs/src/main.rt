@@ -6,8 +6,9 @@ ghost use Rattle.std.specs.Prelude.{◌≤◌, ◌<◌, length};
 ghost use Rattle.format.specs.Limits.{max_bytes};
 
 use format::MAX_BYTES;
-use libc::{STDERR_FILENO, STDIN_FILENO, STDOUT_FILENO};
 use sheet::{Outcome, Reading};
+use std::io;
+use std::io::{Print, Read};
 
 // The longest sheet that is read, one over the longest that there is: what is longer is no test of this program's.
 const SPACE: usize = MAX_BYTES + 1;
@@ -17,79 +18,98 @@ fn length_of(high: u8, low: u8) -> usize {
     (high as usize) * 256 + low as usize
 }
 
-fn number(n: u64) {
-    io::write_all(STDOUT_FILENO, b" ");
-    io::print_decimal(STDOUT_FILENO, n);
+fn number(rt: &HostRuntime, n: u64) -> io::Result<()> {
+    rt.write_all(b" ")?;
+    rt.print(n)
+}
+
+// Reads until the buffer is full, the input ends or a read fails: how many bytes were read.
+fn read_full(rt: &HostRuntime, buf: &mut [u8]) -> usize
+    ensures { result ≤ length buf.new }
+{
+    let mut input = rt.stdin();
+    let mut n = 0;
+    while n < buf.len() {
+        let rest = &mut buf[n..];
+        match input.read(rest) {
+            Ok(more) => {
+                if more == 0 {
+                    return n;
+                }
+                n += more;
+            }
+            Err(_) => return n,
+        }
+    }
+    n
 }
 
 // The reader's outcome on a sheet, as a line.
-fn told(s: &[u8]) {
+fn told(rt: &HostRuntime, s: &[u8]) -> io::Result<()> {
     let o = sheet::reader::read(s);
     let reading = o.reading;
     match reading {
         Reading::Refused(n, p) => {
-            io::write_all(STDOUT_FILENO, b"refused");
-            number(n as u64);
-            io::write_all(STDOUT_FILENO, b" at");
-            number(p as u64);
+            rt.write_all(b"refused")?;
+            number(rt, n as u64)?;
+            rt.write_all(b" at")?;
+            number(rt, p as u64)?;
         }
         Reading::Whole => {
-            io::write_all(STDOUT_FILENO, b"read");
-            number(o.counts.head.agents as u64);
-            number(o.counts.head.size as u64);
-            number(o.counts.inits as u64);
-            number(o.counts.events as u64);
-            number(o.counts.rows as u64);
-            number(o.counts.pairs as u64);
+            rt.write_all(b"read")?;
+            number(rt, o.counts.head.agents as u64)?;
+            number(rt, o.counts.head.size as u64)?;
+            number(rt, o.counts.inits as u64)?;
+            number(rt, o.counts.events as u64)?;
+            number(rt, o.counts.rows as u64)?;
+            number(rt, o.counts.pairs as u64)?;
         }
     }
-    io::write_all(STDOUT_FILENO, b"\n");
+    rt.write_all(b"\n")
 }
 
 // The next n bytes of the input as a sheet; false where the input ends before.
-fn sheet_of(space: &mut [u8], n: usize) -> bool
+fn sheet_of(rt: &HostRuntime, space: &mut [u8], n: usize) -> io::Result<bool>
     requires { n ≤ length space.old }
 {
     let part = &mut space[..n];
-    let k = io::read_full(STDIN_FILENO, part);
+    let k = read_full(rt, part);
     if k < n {
-        return false;
+        return Ok(false);
     }
-    told(part);
-    true
+    told(rt, part)?;
+    Ok(true)
 }
 
 // One sheet: read and reported; false where the input ends.
-fn one(space: &mut [u8]) -> bool
+fn one(rt: &HostRuntime, space: &mut [u8]) -> io::Result<bool>
     requires { max_bytes < length space.old }
 {
     let mut head = [0u8; 2];
-    let got = io::read_full(STDIN_FILENO, &mut head);
+    let got = read_full(rt, &mut head);
     if got < 2 {
-        return false;
+        return Ok(false);
     }
     let n = length_of(head[0], head[1]);
     if SPACE < n {
-        io::write_all(
-            STDERR_FILENO,
-            b"reader_runs: a sheet of more than 4,097 bytes; nothing behind it is read\n",
-        );
-        return false;
+        rt.stderr().write_all(b"reader_runs: a sheet of more than 4,097 bytes; nothing behind it is read\n")?;
+        return Ok(false);
     }
-    sheet_of(space, n)
+    sheet_of(rt, space, n)
 }
 
-fn all(space: &mut [u8])
+fn all(rt: &HostRuntime, space: &mut [u8]) -> io::Result<()>
     requires { max_bytes < length space.old }
 {
     for _ in 0..1000000usize {
-        if !one(space) {
-            return;
+        if !one(rt, space)? {
+            return Ok(());
         }
     }
+    Ok(())
 }
 
-fn main() {
+fn main(rt: HostRuntime) -> io::Result<()> {
     let mut space = [0u8; SPACE];
-    all(&mut space);
+    all(&rt, &mut space)
 }

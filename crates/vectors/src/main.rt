@@ -6,7 +6,7 @@
 ghost use Rattle.std.specs.Prelude.{◌+◌, ◌<◌, ◌≤◌, length};
 ghost use Rattle.format.specs.Limits.{max_bytes};
 
-use libc::{STDERR_FILENO, STDIN_FILENO, STDOUT_FILENO};
+use std::io::{Print, Read};
 
 // A length of two bytes.
 fn length_of(high: u8, low: u8) -> usize {
@@ -24,42 +24,65 @@ fn held(n: usize) -> usize
     }
 }
 
+// A line on standard error; where that is closed too there is nobody to tell.
+fn say(rt: &HostRuntime, line: &[u8]) {
+    let _ = rt.stderr().write_all(line).is_ok();
+}
+
+// Reads until the buffer is full, the input ends or a read fails: how many bytes were read.
+fn read_full(rt: &HostRuntime, buf: &mut [u8]) -> usize
+    ensures { result ≤ length buf.new }
+{
+    let mut input = rt.stdin();
+    let mut n = 0;
+    while n < buf.len() {
+        let rest = &mut buf[n..];
+        match input.read(rest) {
+            Ok(more) => {
+                if more == 0 {
+                    return n;
+                }
+                n += more;
+            }
+            Err(_) => return n,
+        }
+    }
+    n
+}
+
 // The judge's answer on a sheet, as a line.
-fn told(s: &[u8]) {
+fn told(rt: &HostRuntime, s: &[u8]) {
     let mut scratch = [0u8; tell::SCRATCH_BYTES];
     let mut order = [tell::UNUSED; tell::ORDER_BYTES];
     let mut out = [0u8; tell::LINE_BYTES];
     let k = tell::tell(s, &mut scratch, &mut order, &mut out);
-    if !io::write_all(STDOUT_FILENO, &out[..k]) {
-        io::write_all(STDERR_FILENO, b"vectors: a line could not be written\n");
+    if rt.write_all(&out[..k]).is_err() {
+        say(rt, b"vectors: a line could not be written\n");
     }
 }
 
 // Says that a sheet is not whole.
-fn cut() {
-    io::write_all(
-        STDERR_FILENO,
-        b"vectors: the input ends inside a sheet, or a read failed\n",
-    );
+fn cut(rt: &HostRuntime) {
+    say(rt, b"vectors: the input ends inside a sheet, or a read failed\n");
 }
 
 // After a read of less than a length: says so, unless this is the plain end of the input. A read that failed fails again.
-fn ended(got: usize) {
+fn ended(rt: &HostRuntime, got: usize) {
     let mut next = [0u8; 1];
     if got != 0 {
-        cut();
+        cut(rt);
         return;
     }
-    if libc::read(STDIN_FILENO, &mut next) < 0 {
-        cut();
+    if rt.stdin().read(&mut next).is_err() {
+        cut(rt);
     }
 }
 
 // Passes over what is not held of a sheet of n bytes; false where the input ends before.
-fn passed(n: usize) -> bool {
+fn passed(rt: &HostRuntime, n: usize) -> bool {
     let mut next = [0u8; 1];
     for _ in tell::SHEET_BYTES..n {
-        if io::read_full(STDIN_FILENO, &mut next) == 0 {
+        if read_full(rt, &mut next) == 0 {
             return false;
         }
     }
@@ -67,48 +90,48 @@ fn passed(n: usize) -> bool {
 }
 
 // The next sheet, of n bytes, k of them held; false where the input ends before.
-fn sheet_of(space: &mut [u8], n: usize, k: usize) -> bool
+fn sheet_of(rt: &HostRuntime, space: &mut [u8], n: usize, k: usize) -> bool
     requires { k ≤ length space.old }
 {
     let part = &mut space[..k];
-    let got = io::read_full(STDIN_FILENO, part);
+    let got = read_full(rt, part);
     if got < k {
-        cut();
+        cut(rt);
         return false;
     }
-    if !passed(n) {
-        cut();
+    if !passed(rt, n) {
+        cut(rt);
         return false;
     }
-    told(part);
+    told(rt, part);
     true
 }
 
 // One sheet: read and reported; false where the input ends.
-fn one(space: &mut [u8]) -> bool
+fn one(rt: &HostRuntime, space: &mut [u8]) -> bool
     requires { max_bytes < length space.old }
 {
     let mut head = [0u8; 2];
-    let got = io::read_full(STDIN_FILENO, &mut head);
+    let got = read_full(rt, &mut head);
     if got < 2 {
-        ended(got);
+        ended(rt, got);
         return false;
     }
     let n = length_of(head[0], head[1]);
-    sheet_of(space, n, held(n))
+    sheet_of(rt, space, n, held(n))
 }
 
-fn all(space: &mut [u8])
+fn all(rt: &HostRuntime, space: &mut [u8])
     requires { max_bytes < length space.old }
 {
     for _ in 0..1000000usize {
-        if !one(space) {
+        if !one(rt, space) {
             return;
         }
     }
 }
 
-fn main() {
+fn main(rt: HostRuntime) {
     let mut space = [0u8; tell::SHEET_BYTES];
-    all(&mut space);
+    all(&rt, &mut space);
 }

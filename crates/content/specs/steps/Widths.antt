@@ -3,7 +3,7 @@
 --     widths_of     1, 2, 4, 8 for an access, 0 for a marker, none for all else
 -- Assumes nothing.
 use Rattle.std.specs.Prelude.{cond, ℕ, eqb}
-use Rattle.basis.specs.Test.{◌and◌, ◌or◌}
+use Rattle.basis.specs.Test.{◌or◌}
 
 unfoldable pub widths_of : ℕ → ℕ → ℕ
 widths_of kind mode =

@@ -9,9 +9,7 @@ use Rattle.basis.specs.Test.{◌and◌, ◌or◌}
 use Rattle.basis.proofs.BoolLaws.{or_none}
 use Rattle.format.specs.Shape.{sc}
 use Rattle.content.specs.Content.{sized, kind_fits}
-use borrow.Author.Rules.{rules}
-use Rattle.content.proofs.kind_fits.Statement.{statement}
-use Rattle.content.proofs.kind_fits.Tie as tie
+use Rattle.content.proofs.kind_fits.Goals as goal
 
 by_kind : (k : ℕ) (y z m : Bool)
     → ((((eqb k 1 or eqb k 2) or (eqb k 3 and y)) and z) or (eqb k 4 and m))
@@ -30,19 +28,10 @@ by_kind k y z m = go (eqb k 1) refl (eqb k 2) refl (eqb k 3) refl (eqb k 4) refl
     go false p false q false r true t = refl
     go false p false q false r false t = refl
 
-sc-requires : tie.Need-sc-requires
-sc-requires c κs = search rules
-
-sized-requires : tie.Need-sized-requires
-sized-requires c κs = search rules
-
-returns : tie.Need-returns
+pub returns : goal.returns
 unfolding kind_fits ◌and◌ ◌or◌
 returns c =
-    simp (c.before.before.before.before.before.before.sc.ensures, c.sized.ensures)
-    (by_kind c.before.before.before.before.before.before.before.args.a.kind
-    (sc c.before.before.before.before.before.before.before.args.a)
-    (sized c.before.before.before.before.before.before.before.args.a) (sc c.before.before.before.before.before.before.before.args.a and eqb c.before.before.before.before.before.before.before.args.a.start 0 and eqb c.before.before.before.before.before.before.before.args.a.width 0))
-
-pub kind_fits_spec : {M : Type 1} → statement M
-kind_fits_spec = tie.close (tie.spec sc-requires sized-requires returns)
+    simp (c.sc-sc.ensures, c.sized.ensures)
+    (by_kind c.args.a.kind
+    (sc c.args.a)
+    (sized c.args.a) (sc c.args.a and eqb c.args.a.start 0 and eqb c.args.a.width 0))

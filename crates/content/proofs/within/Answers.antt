@@ -2,12 +2,8 @@
 use mathlib.Core.Path.{refl}
 use Rattle.basis.specs.Test.{◌and◌}
 use Rattle.content.specs.Content.{within}
-use Rattle.content.proofs.within.Statement.{statement}
-use Rattle.content.proofs.within.Tie as tie
+use Rattle.content.proofs.within.Goals as goal
 
-returns : tie.Need-returns
+pub returns : goal.returns
 unfolding within ◌and◌
 returns c = refl
-
-pub within_spec : {M : Type 1} → statement M
-within_spec = tie.close (tie.spec returns)

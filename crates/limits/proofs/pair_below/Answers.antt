@@ -2,12 +2,8 @@
 use mathlib.Core.Path.{refl}
 use Rattle.basis.specs.Test.{◌and◌, ◌or◌}
 use Rattle.format.specs.Execution.{pair_below}
-use Rattle.limits.proofs.pair_below.Statement.{statement}
-use Rattle.limits.proofs.pair_below.Tie as tie
+use Rattle.limits.proofs.pair_below.Goals as goal
 
-returns : tie.Need-returns
+pub returns : goal.returns
 unfolding pair_below ◌and◌ ◌or◌
 returns c = refl
-
-pub pair_below_spec : {M : Type 1} → statement M
-pair_below_spec = tie.close (tie.spec returns)

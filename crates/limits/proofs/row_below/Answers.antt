@@ -7,9 +7,7 @@ use borrow.Author.Tests.{eqb-true, eqb-false, ltb-true, ltb-false, lt-ltb, le-lt
 use lib.Dec.{eqb, ltb}
 use Rattle.basis.specs.Test.{◌and◌, ◌or◌}
 use Rattle.format.specs.Execution.{row_below}
-use borrow.Author.Rules.{rules}
-use Rattle.limits.proofs.row_below.Statement.{statement}
-use Rattle.limits.proofs.row_below.Tie as tie
+use Rattle.limits.proofs.row_below.Goals as goal
 
 as_one : (a b c d : ℕ) → b < 256 → d < 256 → ltb (a * 256 + b) (c * 256 + d) ≡ (ltb a c or (eqb a c and ltb b d))
 unfolding ◌and◌ ◌or◌
@@ -24,44 +22,6 @@ as_one a b c d h k = go (ltb a c) refl (eqb a c) refl (ltb b d) refl
         above : (a ≡ c → ⊥) → c ≤ a → c < a
         above n l = omega arith
 
-cast-before : tie.Need-overflow-cast-before
-cast-before c = search rules
-
-mul-before : tie.Need-overflow-mul-before
-mul-before c = search rules
-
-cast-before-2 : tie.Need-overflow-cast-before-2
-cast-before-2 c = search rules
-
-add-before : tie.Need-overflow-add-before
-add-before c = search rules
-
-cast-result : tie.Need-overflow-cast-result
-cast-result c = search rules
-
-mul-result : tie.Need-overflow-mul-result
-mul-result c = search rules
-
-cast-result-2 : tie.Need-overflow-cast-result-2
-cast-result-2 c = search rules
-
-add-result : tie.Need-overflow-add-result
-add-result c = search rules
-
-returns : tie.Need-returns
+pub returns : goal.returns
 unfolding row_below
-returns c = as_one c.before.before.before.before.args.q.reader c.before.before.before.before.args.q.address c.before.before.before.before.args.r.reader c.before.before.before.before.args.r.address (omega arith) (omega arith)
-
-pub row_below_spec : {M : Type 1} → statement M
-row_below_spec =
-    tie.close
-    (tie.spec
-    cast-before
-    mul-before
-    cast-before-2
-    add-before
-    cast-result
-    mul-result
-    cast-result-2
-    add-result
-    returns)
+returns c = as_one c.args.q.reader c.args.q.address c.args.r.reader c.args.r.address (omega arith) (omega arith)

@@ -34,11 +34,8 @@ class Names:
         self.new_needs = {new: (new, place) for (old, new), place in zip(record["needs"], record["asked_at"])}
         self.settled = set(record["settled"])
         self.places, self.callees = {}, {}
-        self.callees = {}
         for name, parent, step, callee, extra in record["places"]:
             self.places[name] = (parent, step)
-            if callee:
-                self.callees[step[1]] = callee
             self.callees[name] = callee
         self.loops = record["loops"]
         self.record = record
@@ -121,16 +118,9 @@ def flat(names, place, text, said, label):
 
     text = PATH.sub(one, text)
     # the test of an `if !x` says today what x is
-    not_ = r"not-(?:true|false) _ (c\.if-not-[^\s(){},;]+?\.(?:true|false))(?![\w.-])"
+    not_ = r"not-(?:true|false) (?:_|[a-z][^\s(){},;]*) (c\.if-not-[^\s(){},;]+?\.(?:true|false))(?![\w.-])"
     text = re.sub(r"\(" + not_ + r"\)", r"\1", text)
     text = re.sub(not_, r"\1", text)
-    # what a call leaves behind a reference goes by the parameter's name
-    def left(m):
-        params = names.record["params"].get(names.callees.get(m.group(2)))
-        k = m.group(3).count(".1")
-        return m.group(0) if not params or k >= len(params) else f"{m.group(1)}.{params[k]}"
-
-    text = re.sub(r"(c\.([^\s.(){},;]+)\.new)((?:\.1)*)\.0(?![\w-])", left, text)
     text = re.sub(r"\.keys[0-9]\b", ".is", text)
     return re.sub(r"(c\.in_default(?:-[^\s.(){},;]+)?)\.rest\b", r"\1.in_default-own.rest", text)
 

@@ -89,10 +89,18 @@ def flat(names, place, text, said, label):
         fits = [i for i, w in enumerate(chain) if alike(names.places[w][1][0]) == alike(f)]
         if not fits and alike(f).endswith("_lem"):
             fits = [i for i, w in enumerate(chain) if alike(names.places[w][1][0]) == alike(f)[:-4]]
+        if not fits:  # a number that kept it apart from another field
+            fits = [i for i, w in enumerate(chain) if alike(names.places[w][1][0]) == re.sub("[0-9]+$", "", alike(f))]
+        if not fits and f.endswith("_lem"):
+            fits = [i for i, w in enumerate(chain) if alike(names.places[w][1][0]) == alike(f[:-4])]
+        if not fits:  # a number that kept it apart from another field
+            fits = [i for i, w in enumerate(chain) if alike(names.places[w][1][0]) == re.sub("[0-9]+$", "", alike(f))]
+        if not fits and alike(f).endswith("_lem"):
+            fits = [i for i, w in enumerate(chain) if alike(names.places[w][1][0]) == alike(f)[:-4]]
         if fits:
             i = min(fits, key=lambda i: abs(i - k))
             # what a `&mut` argument holds after a call, by the parameter's name
-            if len(rest) > 2 and rest[1] == "new" and rest[2] in ("0", "1"):
+            if len(rest) > 2 and rest[1] in ("new", "auto") and rest[2] in ("0", "1"):
                 given = names.record["params"].get(names.callees.get(chain[i]))
                 n = 2
                 while n < len(rest) and rest[n] == "1":
@@ -111,7 +119,7 @@ def flat(names, place, text, said, label):
 
     text = PATH.sub(one, text)
     # the test of an `if !x` says today what x is
-    not_ = r"not-(?:true|false) (?:_|c(?:\.[\w-]+)+) (c\.if-not-[^\s(){},;]+?\.(?:true|false))(?![\w.-])"
+    not_ = r"not-(?:true|false) (?:_|[a-z][^\s(){},;]*) (c\.if-not-[^\s(){},;]+?\.(?:true|false))(?![\w.-])"
     text = re.sub(r"\(" + not_ + r"\)", r"\1", text)
     text = re.sub(not_, r"\1", text)
     text = re.sub(r"\.keys[0-9]\b", ".is", text)
@@ -280,34 +288,33 @@ def convert(crate, fn, folder, names, said):
     os.remove(path)
     if turns:
         uses = uses + [f"use borrow.Author.Tests.{{{', '.join(sorted(turns))}}}"]
-    # what an invariant cites of the file's own stands beside it, and the answers cite it from there
-    at_inv, shared = [], []
-    wanted = set(WORD.findall("\n".join(inv)))
-    again = True
-    while again:
-        again = False
+    # helpers that the invariants cite stand with them
+    cited, grows = [], True
+    while grows:
+        grows = False
         for h in helpers:
-            m = re.search(r"(?m)^(?:abbrev )?(?:pub )?([^\s-][^\s]*) :", h)
-            if m and m.group(1) in wanted and h not in at_inv:
-                at_inv.append(h)
-                shared.append(m.group(1))
-                wanted |= set(WORD.findall(h))
-                again = True
-    at_inv = [re.sub(r"(?m)^(abbrev )?(?:pub )?(" + re.escape(n) + r" :)", r"\1pub \2", h) for n, h in zip(shared, at_inv)]
-    at_inv = [h for _, h in sorted(zip([next(i for i, x in enumerate(helpers) if re.search(r"(?m)^(?:abbrev )?(?:pub )?" + re.escape(n) + " :", x)) for n in shared], at_inv))]
-    helpers = [h for h in helpers if not any(re.search(r"(?m)^(?:abbrev )?(?:pub )?" + re.escape(n) + " :", h) for n in shared)]
-    inv = at_inv + inv
+            m = re.search(r"^(?:(?:pub|abbrev|unfoldable) )*([^\s(){}:]+) :", h, re.M)
+            if m and h not in cited and re.search(r"(?<![^\s(){}.;,])" + re.escape(m.group(1)) + r"(?![^\s(){}.;,])", "\n".join(inv + cited)):
+                cited.append(h)
+                grows = True
+    if cited:
+        lent = []
+        for i, h in enumerate(cited):
+            m = re.search(r"^((?:(?:pub|abbrev|unfoldable) )*)([^\s(){}:]+) :", h, re.M)
+            lent.append(m.group(2))
+            if "pub" not in m.group(1):
+                cited[i] = h[: m.end(1)] + "pub " + h[m.start(2):]
+        cited = [c for h in helpers for c in cited if c.replace("pub ", "", 1) == h.replace("pub ", "", 1)]
+        helpers = [h for h in helpers if not any(c.replace("pub ", "", 1) == h.replace("pub ", "", 1) for c in cited)]
+        inv = cited + inv
+        uses.append(f"use Rattle.{crate}.proofs.{fn.replace('::', '.')}.Invariants.{{{', '.join(lent)}}}")
     used = "\n".join(helpers + out)
-    cited = [n for n in shared if n in set(WORD.findall(used))]
-    inv_uses = uses
-    if cited and out:
-        uses = uses + [f"use Rattle.{crate}.proofs.{fn.replace('::', '.')}.Invariants.{{{', '.join(cited)}}}"]
     if out:
         with open(os.path.join(folder, "Answers.antt"), "w", encoding="utf-8") as f:
             f.write("\n".join(head + prune(uses, used) + [f"use Rattle.{crate}.proofs.{fn.replace('::', '.')}.Goals as goal", ""]) + "\n" + "\n\n".join(helpers + out) + "\n")
     if inv:
         with open(os.path.join(folder, "Invariants.antt"), "w", encoding="utf-8") as f:
-            f.write("\n".join((head if not out else head) + prune(inv_uses, "\n".join(inv)) + [f"use Rattle.{crate}.proofs.{fn.replace('::', '.')}.Given as goal", ""]) + "\n" + "\n\n".join(inv) + "\n")
+            f.write("\n".join((head if not out else head) + [u for u in prune(uses, "\n".join(inv)) if ".Invariants.{" not in u] + [f"use Rattle.{crate}.proofs.{fn.replace('::', '.')}.Given as goal", ""]) + "\n" + "\n\n".join(inv) + "\n")
     elif not out and not os.listdir(folder):
         os.rmdir(folder)
 

@@ -112,7 +112,7 @@ def flat(names, place, text, said, label):
 
     text = PATH.sub(one, text)
     # the test of an `if !x` says today what x is
-    not_ = r"not-(?:true|false) _ (c\.if-not-[^\s(){},;]+?\.(?:true|false))(?![\w.-])"
+    not_ = r"not-(?:true|false) (?:_|[a-z][^\s(){},;]*) (c\.if-not-[^\s(){},;]+?\.(?:true|false))(?![\w.-])"
     text = re.sub(r"\(" + not_ + r"\)", r"\1", text)
     text = re.sub(not_, r"\1", text)
     text = re.sub(r"\.keys[0-9]\b", ".is", text)
@@ -232,13 +232,33 @@ def convert(crate, fn, folder, names, said):
         term = term.replace("\0", "").replace("\1", ".")
         inv.append("\n".join(note + [f"abbrev pub {kind}-{new} : goal.{kind}-{new}"] + ([opened] if opened else []) + [f"{kind}-{new} l ={term}"]))
     os.remove(path)
+    # helpers that the invariants cite stand with them
+    cited, grows = [], True
+    while grows:
+        grows = False
+        for h in helpers:
+            m = re.search(r"^(?:(?:pub|abbrev|unfoldable) )*([^\s(){}:]+) :", h, re.M)
+            if m and h not in cited and re.search(r"(?<![^\s(){}.;,])" + re.escape(m.group(1)) + r"(?![^\s(){}.;,])", "\n".join(inv + cited)):
+                cited.append(h)
+                grows = True
+    if cited:
+        lent = []
+        for i, h in enumerate(cited):
+            m = re.search(r"^((?:(?:pub|abbrev|unfoldable) )*)([^\s(){}:]+) :", h, re.M)
+            lent.append(m.group(2))
+            if "pub" not in m.group(1):
+                cited[i] = h[: m.end(1)] + "pub " + h[m.start(2):]
+        cited = [c for h in helpers for c in cited if c.replace("pub ", "", 1) == h.replace("pub ", "", 1)]
+        helpers = [h for h in helpers if not any(c.replace("pub ", "", 1) == h.replace("pub ", "", 1) for c in cited)]
+        inv = cited + inv
+        uses.append(f"use Rattle.{crate}.proofs.{fn.replace('::', '.')}.Invariants.{{{', '.join(lent)}}}")
     used = "\n".join(helpers + out)
     if out:
         with open(os.path.join(folder, "Answers.antt"), "w", encoding="utf-8") as f:
             f.write("\n".join(head + prune(uses, used) + [f"use Rattle.{crate}.proofs.{fn.replace('::', '.')}.Goals as goal", ""]) + "\n" + "\n\n".join(helpers + out) + "\n")
     if inv:
         with open(os.path.join(folder, "Invariants.antt"), "w", encoding="utf-8") as f:
-            f.write("\n".join((head if not out else head) + prune(uses, "\n".join(inv)) + [f"use Rattle.{crate}.proofs.{fn.replace('::', '.')}.Given as goal", ""]) + "\n" + "\n\n".join(inv) + "\n")
+            f.write("\n".join((head if not out else head) + [u for u in prune(uses, "\n".join(inv)) if ".Invariants.{" not in u] + [f"use Rattle.{crate}.proofs.{fn.replace('::', '.')}.Given as goal", ""]) + "\n" + "\n\n".join(inv) + "\n")
     elif not out and not os.listdir(folder):
         os.rmdir(folder)
 

@@ -86,12 +86,14 @@ def flat(names, place, text, said, label):
             return "c." + ".".join(rest)
         # the step of that name nearest to where the path pointed
         fits = [i for i, w in enumerate(chain) if alike(names.places[w][1][0]) == alike(f)]
+        if not fits:  # a number that kept it apart from another field
+            fits = [i for i, w in enumerate(chain) if alike(names.places[w][1][0]) == re.sub("[0-9]+$", "", alike(f))]
         if not fits and alike(f).endswith("_lem"):
             fits = [i for i, w in enumerate(chain) if alike(names.places[w][1][0]) == alike(f)[:-4]]
         if fits:
             i = min(fits, key=lambda i: abs(i - k))
             # what a `&mut` argument holds after a call, by the parameter's name
-            if len(rest) > 2 and rest[1] == "new" and rest[2] in ("0", "1"):
+            if len(rest) > 2 and rest[1] in ("new", "auto") and rest[2] in ("0", "1"):
                 given = names.record["params"].get(names.callees.get(chain[i]))
                 n = 2
                 while n < len(rest) and rest[n] == "1":

@@ -1,0 +1,14 @@
+-- `glides::glide` meets its contract: each event was the lowest that could be placed (`Going`). The way gets longer. Assumes nothing.
+use mathlib.Core.Path.{◌≡◌}
+use Prim.Native.Nat.{◌-◌}
+use lib.ListN.{length}
+use Rattle.orders.specs.Tables.{tabled}
+use Rattle.orders.specs.Listed.{listed_bars}
+use Rattle.orders.proofs.DescendLaws.{Going}
+use Rattle.glides.proofs.glide.Given as goal
+
+abbrev pub invariant-loop-s : goal.invariant-loop-s
+invariant-loop-s l = Going (tabled l.m l.before (listed_bars l.between l.readers l.writers l.n)) l.k l.path l.s l.depth × (length l.path ≡ length l.initial.path)
+
+abbrev pub decreases-loop-s : goal.decreases-loop-s
+decreases-loop-s l = l.m - l.depth

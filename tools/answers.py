@@ -122,6 +122,8 @@ def flat(names, place, text, said, label):
     not_ = r"not-(?:true|false) (?:_|[a-z][^\s(){},;]*) (c\.if-not-[^\s(){},;]+?\.(?:true|false))(?![\w.-])"
     text = re.sub(r"\(" + not_ + r"\)", r"\1", text)
     text = re.sub(not_, r"\1", text)
+    text = re.sub(r"(?<![\w.'-])(c\.args\.|c\.loop-[^\s.(){},;]+\.|[abd-z]\.)([a-z][a-z0-9]*(?:-[a-z0-9]+)+)(?![\w-])", lambda m: m.group(1) + alike(m.group(2)), text)
+    text = re.sub(r"(c\.wrapping_[^\s.(){},;]+\.ensures)(?![.\w])", r"\1.value", text)
     text = re.sub(r"\.keys[0-9]\b", ".is", text)
     return re.sub(r"(c\.in_default(?:-[^\s.(){},;]+)?)\.rest\b", r"\1.in_default-own.rest", text)
 
@@ -332,7 +334,7 @@ def prune(uses, text):
         for n in m.group(2).split(", "):
             plain = n.split(" as ")[-1].strip()
             bare = plain.replace("◌", "")
-            if plain in words or bare in words or (plain.startswith("◌") and any(bare in w for w in words)):
+            if plain in words or bare in words or (plain.startswith("◌") and bare in text):
                 names.append(n)
         if names:
             kept.append(f"use {m.group(1)}.{{{', '.join(names)}}}")

@@ -29,13 +29,13 @@ entry_judged e t scratch order p q =
       subst (λ (w : Answer × List ℕ). Judged e.sheet scratch order w.0 (cleared o.used scratch) (w.1 ++ drop (length w.1) order)) t k,
     )
 
-each_right : (l : List Entry) → each comes l ≡ each stated l → (e : Entry) → Memᴰ e l → EntryRight e
+each_right : (e : Entry) (l : List Entry) → each comes l ≡ each stated l → Memᴰ e l → EntryRight e
 unfolding each
-each_right l t e (Memᴰ.head {x = f} q) = subst EntryRight (sym q) (entry_judged f (head-eq_of_cons-eq t))
-each_right l t e (Memᴰ.tail {xs = k} m) = each_right k (tail-eq_of_cons-eq t) e m
+each_right e l t (Memᴰ.head {x = f} q) = subst EntryRight (sym q) (entry_judged f (head-eq_of_cons-eq t))
+each_right e l t (Memᴰ.tail {xs = k} m) = each_right e k (tail-eq_of_cons-eq t) m
 
 pub litmus_judged : LitmusRight proved
-litmus_judged = each_right proved litmus
+litmus_judged e = each_right e proved litmus
 
 pub more_judged : LitmusRight further
-more_judged = each_right further litmus_more
+more_judged e = each_right e further litmus_more

@@ -1,0 +1,13 @@
+-- `rules::over` meets its contract: what stands before j passes not. The measure is what is left. Assumes nothing.
+use mathlib.Core.Path.{◌≡◌}
+use mathlib.Core.Bool.{false}
+use Prim.Native.Nat.{ℕ, ◌-◌, ◌≤◌, ◌<◌}
+use Rattle.tables.specs.Tables.{row_room}
+use Rattle.rules.specs.Rules.{over_in}
+use Rattle.rules.proofs.over.Given as goal
+
+abbrev pub invariant-loop-j : goal.invariant-loop-j
+invariant-loop-j l = (l.j ≤ l.m) × (l.m ≤ row_room) × ((d : ℕ) → d < l.j → over_in l.t l.q l.succ l.pred d ≡ false)
+
+abbrev pub decreases-loop-j : goal.decreases-loop-j
+decreases-loop-j l = l.m - l.j

@@ -244,9 +244,12 @@ def convert(crate, fn, folder, names, said):
             continue
         key = None
         for k, (n, pl) in names.needs.items():
-            if alike(k) == alike(old) or alike(n) == alike(old):
+            if alike(old) in (alike(k), "overflow_" + alike(k)):
                 key = k
                 break
+        for k, (n, pl) in names.needs.items():
+            if key is None and alike(n) == alike(old):
+                key = k
         if key is None:
             for k in names.needs:
                 o = alike(old)

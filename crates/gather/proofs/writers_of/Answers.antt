@@ -41,9 +41,10 @@ pub loop-w-preserved : goal.loop-w-preserved
 loop-w-preserved c =
     let l = c.loop-w in
     let slot : l.w % slots ≡ l.w = mod-eq_of_lt (omega arith) in
-    elim c.if-bars-v-ne0.branch
-    [ then-bars-v-ne0 x ↦ (omega arith, subst (Writers (l.w + 1) c.args.bars.now c.args.v) (sym (x.c-is ∙ x.with-c.ensures ∙ ap (insert l.c) slot)) (writers_in_lem l.invariant.1 x.if-bars-v-ne0.true))
-    | else-bars-v-ne0 x ↦ (omega arith, subst (Writers (l.w + 1) c.args.bars.now c.args.v) (sym x.c-is) (writers_out l.invariant.1 x.if-bars-v-ne0.false)) ]
+    elim c.if-bars-v-ne0.branch [
+      | then-bars-v-ne0 x ↦ (omega arith, subst (Writers (l.w + 1) c.args.bars.now c.args.v) (sym (x.c-is ∙ x.with-c.ensures ∙ ap (insert l.c) slot)) (writers_in_lem l.invariant.1 x.if-bars-v-ne0.true))
+      | else-bars-v-ne0 x ↦ (omega arith, subst (Writers (l.w + 1) c.args.bars.now c.args.v) (sym x.c-is) (writers_out l.invariant.1 x.if-bars-v-ne0.false))
+    ]
 
 pub returns : goal.returns
 returns c =

@@ -58,6 +58,7 @@ reads_at_lem (suc (suc e)) n t = absurd (subst T (reads_at_nobody n) t)
 of_rows : (F : Row → Type 0) → F (a_row 1 0 0) → F (a_row 1 64 0) → (r : Row) → Memᴰ r x.rows → F r
 of_rows F a b r (Memᴰ.head z) = subst F (sym z) a
 of_rows F a b r (Memᴰ.tail (Memᴰ.head z)) = subst F (sym z) b
+of_rows F a b r (Memᴰ.tail (Memᴰ.tail y)) = elim y [ ]
 
 has : (e n : ℕ) → (e ≡ 1) → (0 ≡ n) ⊎ (64 ≡ n) → (r : Row) × Memᴰ r x.rows × (r.reader ≡ e) × (r.address ≡ n)
 has e n h (inl z) = (a_row 1 0 0, Memᴰ.head refl, sym h, z)
@@ -79,6 +80,7 @@ init_writes : (e : ℕ) → T (is_init (event x e)) → (a : Access) → Memᴰ 
 unfolding event event_no is_init
 init_writes zero t a (Memᴰ.head z) = (ap (λ (b : Access). b.shape.kind) z, ap (λ (b : Access). b.shape.mode) z)
 init_writes zero t a (Memᴰ.tail (Memᴰ.head z)) = (ap (λ (b : Access). b.shape.kind) z, ap (λ (b : Access). b.shape.mode) z)
+init_writes zero t a (Memᴰ.tail (Memᴰ.tail y)) = elim y [ ]
 init_writes (suc zero) t a m = absurd t
 init_writes (suc (suc e)) t a m = absurd (Memᴰ.not-nil m)
 

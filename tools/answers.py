@@ -52,6 +52,7 @@ def alike(x):
     return x.replace("-", "_")
 
 
+WORD = re.compile(r"[^\s(){}.;,@\"«»\[\]|]+")
 PATH = re.compile(r"(?<![\w.'₀])c((?:\.[^\s(){},;.]+)+)")
 FIXED = ("args", "requires", "ranges", "type_inv", "utf8", "auto")
 
@@ -86,6 +87,12 @@ def flat(names, place, text, said, label):
             return "c." + ".".join(rest)
         # the step of that name nearest to where the path pointed
         fits = [i for i, w in enumerate(chain) if alike(names.places[w][1][0]) == alike(f)]
+        if not fits and alike(f).endswith("_lem"):
+            fits = [i for i, w in enumerate(chain) if alike(names.places[w][1][0]) == alike(f)[:-4]]
+        if not fits:  # a number that kept it apart from another field
+            fits = [i for i, w in enumerate(chain) if alike(names.places[w][1][0]) == re.sub("[0-9]+$", "", alike(f))]
+        if not fits and f.endswith("_lem"):
+            fits = [i for i, w in enumerate(chain) if alike(names.places[w][1][0]) == alike(f[:-4])]
         if not fits:  # a number that kept it apart from another field
             fits = [i for i, w in enumerate(chain) if alike(names.places[w][1][0]) == re.sub("[0-9]+$", "", alike(f))]
         if not fits and alike(f).endswith("_lem"):
@@ -115,11 +122,58 @@ def flat(names, place, text, said, label):
     not_ = r"not-(?:true|false) (?:_|[a-z][^\s(){},;]*) (c\.if-not-[^\s(){},;]+?\.(?:true|false))(?![\w.-])"
     text = re.sub(r"\(" + not_ + r"\)", r"\1", text)
     text = re.sub(not_, r"\1", text)
+    text = re.sub(r"(?<![\w.'-])(c\.args\.|c\.loop-[^\s.(){},;]+\.|[abd-z]\.)([a-z][a-z0-9]*(?:-[a-z0-9]+)+)(?![\w-])", lambda m: m.group(1) + alike(m.group(2)), text)
+    text = re.sub(r"(c\.wrapping_[^\s.(){},;]+\.ensures)(?![.\w])", r"\1.value", text)
     text = re.sub(r"\.keys[0-9]\b", ".is", text)
     return re.sub(r"(c\.in_default(?:-[^\s.(){},;]+)?)\.rest\b", r"\1.in_default-own.rest", text)
 
 
+TURNS = {"<": ("lt-ltb", "le-ltb"), "<=": ("le-leb", "lt-leb"), "==": ("eq-eqb", "ne_eqb")}
+
+
+def compared(crate, fn):
+    """The names that a function gives to comparisons of numbers, `let short = a < b;`, with the lemmas that turn their tests into equations of `Bool`s."""
+    found = {}
+    for file in sorted(os.listdir(os.path.join("crates", crate, "src"))):
+        with open(os.path.join("crates", crate, "src", file), encoding="utf-8") as f:
+            text = f.read()
+        m = re.search(r"\bfn " + re.escape(fn.split("::")[-1].lstrip("+")) + r"\b(.*?)(?=\n(?:pub )?fn |\Z)", text, re.S)
+        if not m:
+            continue
+        for name, term in re.findall(r"let (?:mut )?(\w+) = ([^;]*);", m.group(1)):
+            bare = term
+            while True:
+                less = re.sub(r"\([^()]*\)|\[[^\[\]]*\]", "", bare)
+                if less == bare:
+                    break
+                bare = less
+            ops = re.findall(r"(?<![<>=!])(<=|>=|<|>|==|!=)(?![<>=])|([&|])", bare)
+            if len(ops) == 1 and ops[0][0] in TURNS:
+                found[name] = TURNS[ops[0][0]]
+    return found
+
+
+def turned(term, given):
+    """Where the old proof had an equation of `Bool`s, today's step tells the order or the equality itself."""
+    used = set()
+    for name, (yes, no) in given.items():
+        for step, (of_true, of_false) in ((f"c.if-{name}", (yes, no)), (f"c.if-not-{name}", (no, yes))):
+            for field, lemma in (("true", of_true), ("false", of_false)):
+                at = re.escape(f"{step}.{field}") + r"(?![\w.-])"
+                # what turned it back
+                term = re.sub(r"\((?:ltb|leb|eqb)-(?:true|false) _ _ (" + at + r")\)", r"\1\0", term)
+                term = re.sub(r"(?:ltb|leb|eqb)-(?:true|false) _ _ (" + at + r")", r"\1\0", term)
+                if re.search(at + r"(?!\0)", term):
+                    used.add(lemma)
+                    term = re.sub(r"\((" + at + r")\)", r"\1", term)
+                    term = re.sub(r"(" + at + r")(?!\0)", f"({lemma} _ _ \\1)", term)
+                term = term.replace("\0", "")
+    return term, used
+
+
 def convert(crate, fn, folder, names, said):
+    given = compared(crate, fn)
+    turns = set()
     path = os.path.join(folder, "Proof.antt")
     with open(path, encoding="utf-8") as f:
         text = f.read()
@@ -190,9 +244,12 @@ def convert(crate, fn, folder, names, said):
             continue
         key = None
         for k, (n, pl) in names.needs.items():
-            if alike(k) == alike(old) or alike(n) == alike(old):
+            if alike(old) in (alike(k), "overflow_" + alike(k)):
                 key = k
                 break
+        for k, (n, pl) in names.needs.items():
+            if key is None and alike(n) == alike(old):
+                key = k
         if key is None:
             for k in names.needs:
                 o = alike(old)
@@ -212,6 +269,8 @@ def convert(crate, fn, folder, names, said):
         else:
             new_head = f"{new} c"
         term = flat(names, place[0], term, said, f"{fn}.{new}")
+        term, more_turns = turned(term, given)
+        turns |= more_turns
         out.append("\n".join(note + [f"pub {new} : goal.{new}"] + ([opened] if opened else []) + [f"{new_head} = {term}" if "\n" not in term and "\n" not in body_text[: m.end()] else f"{new_head} =\n    {term.lstrip()}"]))
     inv = []
     for label, kind, loop, opened, body, note in invariants:
@@ -232,6 +291,8 @@ def convert(crate, fn, folder, names, said):
         term = term.replace("\0", "").replace("\1", ".")
         inv.append("\n".join(note + [f"abbrev pub {kind}-{new} : goal.{kind}-{new}"] + ([opened] if opened else []) + [f"{kind}-{new} l ={term}"]))
     os.remove(path)
+    if turns:
+        uses = uses + [f"use borrow.Author.Tests.{{{', '.join(sorted(turns))}}}"]
     # helpers that the invariants cite stand with them
     cited, grows = [], True
     while grows:
@@ -276,7 +337,7 @@ def prune(uses, text):
         for n in m.group(2).split(", "):
             plain = n.split(" as ")[-1].strip()
             bare = plain.replace("◌", "")
-            if plain in words or bare in words or (plain.startswith("◌") and any(bare in w for w in words)):
+            if plain in words or bare in words or (plain.startswith("◌") and bare in text):
                 names.append(n)
         if names:
             kept.append(f"use {m.group(1)}.{{{', '.join(names)}}}")

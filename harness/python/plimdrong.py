@@ -48,7 +48,7 @@ __all__ = ["judge", "judge_many", "check", "why", "names", "listed", "row", "rea
 MAX_SHEET = 4096
 MAX_SCRATCH = 32768
 MAX_EVENTS = 22
-MAX_BARS = 3 * MAX_EVENTS**3
+BARS_BYTES = 3 * MAX_EVENTS**3
 
 # One byte more than the longest sheet has: the judge sees by it that a sheet is too long, and needs no more.
 LOOKED_AT = MAX_SHEET + 1
@@ -64,20 +64,20 @@ _lock = threading.Lock()
 _functions = {}
 
 
-def _library():
-    """The object's path: PLIMDRONG_LIBRARY, else target/native/libplimdrong.so of the repository that has this file."""
+def _library(name):
+    """The object's path: PLIMDRONG_LIBRARY, else target/native/libplimdrong.so of the repository that has this file (plimdrong_why has one of its own)."""
     named = os.environ.get("PLIMDRONG_LIBRARY")
     if named:
         return named
     root = os.path.dirname(os.path.dirname(os.path.dirname(os.path.realpath(__file__))))
-    return os.path.join(root, "target", "native", "libplimdrong.so")
+    return os.path.join(root, "target", "native", "libplimdrong_why.so" if name == "plimdrong_why" else "libplimdrong.so")
 
 
 def _load(name, lent):
     """An exported function of a sheet and so many lent slices, loaded once. CDLL: a call lets other threads run."""
     with _lock:
         if name not in _functions:
-            path = _library()
+            path = _library(name)
             try:
                 function = getattr(ctypes.CDLL(path), name)
             except (OSError, AttributeError) as why:
@@ -259,8 +259,8 @@ def why(sheet):
     'kept 2 bars: 1 0 2, 2 0 1'
     """
     sheet = _front(sheet)
-    bars = ctypes.create_string_buffer(MAX_BARS)
-    return _kept(_load("plimdrong_why", 2)(sheet, len(sheet), _Scratch(), MAX_SCRATCH, bars, MAX_BARS), bars.raw)
+    bars = ctypes.create_string_buffer(BARS_BYTES)
+    return _kept(_load("plimdrong_why", 2)(sheet, len(sheet), _Scratch(), MAX_SCRATCH, bars, BARS_BYTES), bars.raw)
 
 
 def _numbers(events):

@@ -20,11 +20,14 @@ fn every_refusal() {
         assert!(answer.explain().starts_with(words.meaning));
         assert!(answer.explain().contains(words.remedy));
     }
-    // 15 is the writer's, 16 of why no order exists, and no answers of the judge
-    for number in [0, 15, 16, 255] {
-        assert_eq!(refusal(number).is_some(), number == 15 || number == 16);
+    // 15 is the writer's, and no answer of the judge
+    for number in [0, 15, 255] {
+        assert_eq!(refusal(number).is_some(), number == 15);
         assert_eq!(from((1 << 40) + ((number as u64) << 32)), None);
     }
+    // 16 is of why no order exists, and no answer of the judge
+    assert!(refusal(16).is_some());
+    assert_eq!(from((1 << 40) + (16 << 32)), None);
 }
 
 /// The limits that sentences and documents name are the crate's.

@@ -59,7 +59,7 @@ def field(f, edition=1):
     tag, value = f[0], f[3:]
     if f[1:3] == bytes([0, len(value)]):
         if tag == 1 and len(value) == 3 and value[0] == 2:
-            return f"head-2 {value[1]} {value[2]}"
+            return f"head_2 {value[1]} {value[2]}"
         if tag == 2 and edition == 2:
             # an event of edition 1 with the tear byte before its data
             inner = bytes([2, 0, len(value) - 1]) + value[:5] + value[6:] if len(value) >= 6 else b""

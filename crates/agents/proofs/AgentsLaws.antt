@@ -1,7 +1,7 @@
 -- Which agents have an event, noted one event after the other, and the agents that have none. Assumes nothing.
 --     present_none, present_more, present_all       of no event; of one more; of all that were counted
 --     one_lost, none_lost                           an agent that has no event; each has one
-use Prim.Native.Nat.{ℕ, ◌+◌, ◌≤◌, ◌<◌, min}
+use Prim.Native.Nat.{ℕ, ◌+◌, ◌<◌, min}
 use mathlib.Core.Path.{◌≡◌, refl, sym, ap, ◌∙◌, subst}
 use mathlib.Core.List.{List, [], ◌∷◌, ◌++◌, map, map-append}
 use mathlib.Core.Bool.{Bool, true, false}

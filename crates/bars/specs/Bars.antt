@@ -1,5 +1,5 @@
 -- Bars over the tables, by masks; the sets of equal ranges stand in crate alike. Laws: proofs/BarsLaws.antt.
---     reasons_in                 the sets of (a), (b), (c) together, of the two ends' shapes, sets and places in happens_before
+--     reasons_in                 the sets of (a), (b), (c) together, of the two ends' shapes, sets and places in happens-before
 --     mask_in t eq succ pred r   the set of the events V that the row r bars
 --     bars_in t eq succ pred q n bars     the masks bars, with the bars of the first n rows of q: at v * slots + w the readers gained
 --     filled_in t n succ pred q m bars    the same by the sets that alike's equals_in has

@@ -1,4 +1,4 @@
--- Where happens_before starts: the agents' orders, which are closed; and what inits add to them. Assumes nothing.
+-- Where happens-before starts: the agents' orders, which are closed; and what inits add to them. Assumes nothing.
 --     linked_start     the masks of later events are closed, those of earlier ones their columns
 --     linked_from, linked_own, linked_steps     the same as the code makes it, and the whole
 --     inits_own        with what each init meets they are the steps that events make by themselves

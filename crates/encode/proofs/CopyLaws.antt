@@ -1,7 +1,7 @@
--- The laws of specs/Copy.antt: a well_formed execution is well_formed at edition 2, where every tear byte that the rule gives may stand, so that it can
+-- The laws of specs/Copy.antt: a well-formed execution is well-formed at edition 2, where every tear byte that the rule gives may stand, so that it can
 -- be written there. Assumes nothing.
 --     slices_at_lem      what the slices with another first byte of the head lend
---     well_there     a well_formed execution at edition 2
+--     well_there     a well-formed execution at edition 2
 --     copies         the claim Copies
 use mathlib.Core.Path.{◌≡◌, refl}
 use Prim.Native.Nat.{ℕ}

@@ -1,4 +1,4 @@
--- How many bytes the slices of a well_formed execution's table have, at most. Assumes nothing.
+-- How many bytes the slices of a well-formed execution's table have, at most. Assumes nothing.
 --     data_few                                              64 bytes of data for each init, 16 for each other event
 --     events_room, data_room, rows_room, pairs_room         the slices, by 01's limits
 use mathlib.Core.Path.{◌≡◌, refl, ap, ◌∙◌}

@@ -1,4 +1,4 @@
--- The sheet of a well_formed execution is never too long: 01's other limits leave it below 4,096 bytes, so refusal 1 meets only what is not well formed.
+-- The sheet of a well-formed execution is never too long: 01's other limits leave it below 4,096 bytes, so refusal 1 meets only what is not well formed.
 -- Assumes nothing.
 --     run_short                     the bytes of a list of fields, each at most so long
 --     short_sheet : WellFormed x → length (encode (table_of x)) ≤ max_bytes

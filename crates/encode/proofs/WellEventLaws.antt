@@ -1,4 +1,4 @@
--- The value of a well_formed event's description: what it says is the event. Assumes nothing.
+-- The value of a well-formed event's description: what it says is the event. Assumes nothing.
 --     well_data                     its data is as long as its kind asks
 --     value_plain                   its bytes: its edition says its tear byte
 --     event_same, event_long        it describes the event again, and is as long as it should be

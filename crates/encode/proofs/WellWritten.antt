@@ -1,5 +1,5 @@
--- What is well formed is written (02 §2): the bytes of a well_formed execution's table are a sheet that the reader accepts as that execution. So the writer
--- writes the tables of the well_formed executions, and by `read_back` and `promise` no others. From the back: each list of fields hands its start to the
+-- What is well formed is written (02 §2): the bytes of a well-formed execution's table are a sheet that the reader accepts as that execution. So the writer
+-- writes the tables of the well-formed executions, and by `read_back` and `promise` no others. From the back: each list of fields hands its start to the
 -- list before it. Assumes nothing.
 --     Reaches                       from a place on, with so much read, the answer is x
 --     written_within : WellFormed x → length (encode (table_of x)) ≤ max_bytes → parse (encode (table_of x)) ≡ whole x

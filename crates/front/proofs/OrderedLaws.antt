@@ -1,9 +1,9 @@
--- The masks of successors are the model's happens_before, for events with any number of accesses. Assumes nothing.
+-- The masks of successors are the model's happens-before, for events with any number of accesses. Assumes nothing.
 --     overlap_byte          two ranges that overlap share a byte
 --     meets_is              two events meet by the tables and by the model
 --     direct_is, row_is     what two events make by themselves; what a row adds
 --     step_is               the direct steps are the model's
---     ordered               closed they test happens_before, and the columns are theirs
+--     ordered               closed they test happens-before, and the columns are theirs
 use mathlib.Core.Path.{◌≡◌, refl, sym, ap, ap₂, ◌∙◌, subst}
 use mathlib.Core.Bool.{Bool, true, false, cond}
 use mathlib.Core.Logic.{◌⊎◌, inl, inr, ⊎_elim}
@@ -239,6 +239,6 @@ module _ (x : Execution) (t : List ℕ) (n : ℕ) (tb : Tabled x t n) where
                 let z = none e d (λ w. i w.1) in ap (λ (b : Bool). ltb e n and (ltb d slots and b)) z ∙ ap (λ (b : Bool). ltb e n and b) (and_false (ltb d slots)) ∙ and_false (ltb e n) ∙ sym z
             go (no h) i = and_fails (ltb e n) _ (le-ltb e n (omega (arith, h))) ∙ sym (none e d (λ w. h w.0))
 
-        -- happens_before, by rows and by columns
+        -- happens-before, by rows and by columns
         pub ordered : Tests x (hb_of succ) × Turned succ pred
         ordered = (ordered_tests, ordered_turned)

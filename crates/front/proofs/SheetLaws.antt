@@ -1,7 +1,7 @@
 -- A whole sheet through the tables: what the crates below promise by form is what the model says of the sheet's execution. Each contract counts by
 -- `min`; a sheet has no more events, rows and pairs than there are places, so the laws take the contracts as they stand. Assumes nothing.
 --     sheet_stored     the tables hold the sheet's execution
---     sheet_held       the tables, filled and closed, hold the sheet's execution and its happens_before
+--     sheet_held       the tables, filled and closed, hold the sheet's execution and its happens-before
 --     sheet_rules      the first broken rule of 21 to 25
 --     held_bars        the bars
 --     held_row         what one row bars

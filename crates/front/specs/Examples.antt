@@ -3,18 +3,17 @@
 --     Example, examples     an execution, its successors, and what comes: the rule, the bars, the unsettled pair
 --     table_of, rows_of       the tables, filled access by access and row by row
 --     steps_of, model_of      what the steps give over these tables, what the model's definitions give
---     opens                 happens_before would be more than the direct steps
+--     opens                 happens-before would be more than the direct steps
 --     Right                 both give what is stated, and no example opens
 --     Met                   the premise of specs/Steps.antt, for events with two accesses
 -- Assumes nothing.
 use Rattle.std.specs.Prelude.{◌≡◌, Bool, true, false, List, [], ◌∷◌, ℕ, suc, ◌+◌, ◌*◌, length, get_or, set, take, replicate}
 use Rattle.std.proofs.Math.Option.{Option, none, some}
-use Rattle.basis.specs.Test.{◌and◌, non, any, those, each, from}
+use Rattle.basis.specs.Test.{◌and◌, non, any, each, from, across}
 use Rattle.format.specs.declared.Row.{Row}
 use Rattle.format.specs.Event.{Access, Event, saw, wrote}
 use Rattle.format.specs.Execution.{Execution, event, no_head}
 use Rattle.sets.specs.Mask.{slots, mem}
-use Rattle.orders.specs.Posed.{triples}
 use Rattle.answer.specs.declared.Names.TheVariants.{Row as OfRow, Between, Torn}
 use Rattle.answer.specs.declared.Settled.{Settled}
 use Rattle.answer.specs.declared.Settled.TheVariants.{Orderly, Unsettled}
@@ -84,6 +83,18 @@ pub record Comes : Type 0 where
   pub bars : List (ℕ × (ℕ × ℕ))
   pub settled : Settled
 
+module _ {A : Type 0} where
+  unfoldable pub added : Bool → A → List A → List A
+  added true a l = a ∷ l
+  added false a l = l
+
+  unfoldable pub passing : (A → Bool) → List A → List A
+  passing f [] = []
+  passing f (a ∷ l) = let r = passing f l in added (f a) a r
+
+abbrev pub triples : ℕ → List (ℕ × (ℕ × ℕ))
+triples n = across (from 0 n) (across (from 0 n) (from 0 n))
+
 -- In these examples the direct steps are closed already (`opens`), so that no closure is computed.
 abbrev pub steps_of : Execution → Comes
 steps_of x =
@@ -98,7 +109,7 @@ steps_of x =
       succ = take n succ;
       pred = take n pred;
       rule = found_of (rule_in t n succ pred q m);
-      bars = those (λ (b : ℕ × (ℕ × ℕ)). mem (get_or bars (b.1.1 * slots + b.1.0) 0) b.0) (triples n);
+      bars = passing (λ (b : ℕ × (ℕ × ℕ)). mem (get_or bars (b.1.1 * slots + b.1.0) 0) b.0) (triples n);
       settled = settled_in t succ n;
     }
 
@@ -110,7 +121,7 @@ model_of x =
       succ = each (λ (e : ℕ). picked n (λ (d : ℕ). hb e d)) (from 0 n);
       pred = each (λ (d : ℕ). picked n (λ (e : ℕ). hb e d)) (from 0 n);
       rule = fault x hb;
-      bars = those (λ (b : ℕ × (ℕ × ℕ)). bar x hb b.0 b.1.0 b.1.1) (triples n);
+      bars = passing (λ (b : ℕ × (ℕ × ℕ)). bar x hb b.0 b.1.0 b.1.1) (triples n);
       settled = settled_of (unsettled_pair x hb);
     }
 

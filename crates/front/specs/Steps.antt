@@ -1,7 +1,7 @@
 -- What the judge's steps give over the tables of an execution, for events with one access or two: what the model's definitions say of it.
 -- The steps' own contracts (`ClosedSteps`, `filled_in`, `rule_in`, `settled_in`) say by form what comes. Proved in proofs/Steps.antt.
 --     Stored x t n q m p k     the tables t, q, p hold the n events, m rows, k pairs of x
---     HappensBefore          the masks of successors test happens_before, and those of predecessors are their columns
+--     HappensBefore          the masks of successors test happens-before, and those of predecessors are their columns
 --     Bars                   the bars are the model's
 --     Rules                  the first broken rule of 21 to 25, and whom it names, are the model's
 --     Pairs                  orderly, or the lowest unsettled pair, is the model's

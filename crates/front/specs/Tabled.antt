@@ -7,10 +7,10 @@
 --     Paired x p k          the table p holds the k pairs of x
 --     Seen x q m            and for each of them the byte seen and the byte written
 --     Owned x               of an event's accesses no two cover a byte: whichever covers one is the access at that byte
---     hb_of succ             the test of happens_before that rows of successors are
+--     hb_of succ             the test of happens-before that rows of successors are
 --     Turned succ pred      pred holds the columns of succ
 --     found_of               what a rule finds, as an option
---     Held x n m t q succ pred     the tables hold the n events and the m rows of x, succ and pred its happens_before
+--     Held x n m t q succ pred     the tables hold the n events and the m rows of x, succ and pred its happens-before
 -- Assumes nothing.
 use Rattle.std.specs.Prelude.{◌≡◌, Bool, true, false, ◌⊎◌, ℕ, ◌+◌, ◌*◌, ◌<◌, ◌≤◌, T, length, get_or}
 use mathlib.Core.List.{List, [], ◌∷◌, Memᴰ}

@@ -37,7 +37,7 @@ use Rattle.front.specs.Tabled.{hb_of, Held}
 use Rattle.front.proofs.SheetLaws.{held_settled}
 use Rattle.front.proofs.ProblemLaws.{held_before, held_problem, held_begins}
 
--- the execution that the sheet describes, of which the first k events are inits; the tables hold it, with its happens_before; none of 21 to 25 is
+-- the execution that the sheet describes, of which the first k events are inits; the tables hold it, with its happens-before; none of 21 to 25 is
 -- broken, so that 01's "26: no total order as below exists" is next
 pub record Unbroken (s : List ℕ) (k n m : ℕ) (t q succ pred scratch order : List ℕ) : Type 0 where
   pub execution : Execution

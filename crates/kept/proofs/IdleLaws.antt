@@ -1,4 +1,4 @@
--- The laws of specs/steps/Idle.antt: an idle bar more keeps an order (orders' `Spares`). Assumes nothing.
+-- The laws of specs/steps/Idle.antt: an idle bar more keeps an order (orders' `Idles`). Assumes nothing.
 --     idle_facts      what the test says
 --     leaves_idle     an idle bar more leaves an order where there was one
 use Prim.Native.Nat.{ℕ, ◌<◌, ◌≤◌}
@@ -16,8 +16,8 @@ use Rattle.basis.proofs.ListLaws.{each_elim, each_mem}
 use Rattle.sets.specs.Mask.{mem, Has}
 use Rattle.orders.specs.Problem.{Problem}
 use Rattle.orders.specs.Posed.{Triple, posed}
-use Rattle.orders.specs.Spare.{Spares}
-use Rattle.orders.proofs.SameLaws.{below_same}
+use Rattle.orders.specs.Spare.{Idles}
+use Rattle.orders.proofs.SameLaws.{idle_same}
 use Rattle.kept.specs.Bars.{before_in}
 use Rattle.kept.specs.steps.Numbers.{reader_of, writer_of, between_of, triple_of}
 use Rattle.kept.specs.steps.Idle.{Idle, is_idle}
@@ -44,14 +44,14 @@ module _ (m : ℕ) (before : List ℕ) (k i : ℕ) (writer : writer_of i < m) (b
   split [] q j h = Memᴰ.cases_cons h
   split (x ∷ p) q j h = ⊎_elim (λ e. inr (Memᴰ.head e)) (λ g. ⊎_elim inl (λ y. inr (Memᴰ.tail y)) (split p q j g)) (Memᴰ.cases_cons h)
 
-  spares : (p q : List ℕ) → Spares (P (p ++ (i ∷ q))) (P (p ++ q)) k
+  spares : (p q : List ℕ) → Idles (P (p ++ (i ∷ q))) (P (p ++ q)) k
   spares p q =
       record {
         events = refl;
         before = λ a b. ((λ h. h), (λ h. h));
         fewer = λ r w v h. let x = each_elim triple_of (p ++ q) (r, (w, v)) h in
             subst (λ (b : Triple). Memᴰ b (each triple_of (p ++ (i ∷ q)))) x.1.1 (each_mem triple_of (p ++ (i ∷ q)) x.0 (sub_in (sub_one p i q) x.0 x.1.0));
-        settled = λ r w v h. let x = each_elim triple_of (p ++ (i ∷ q)) (r, (w, v)) h in go r w v x.0 x.1.1 (split p q x.0 x.1.0);
+        settles = λ r w v h. let x = each_elim triple_of (p ++ (i ∷ q)) (r, (w, v)) h in go r w v x.0 x.1.1 (split p q x.0 x.1.0);
       }
     where
       go : (r w v j : ℕ) → triple_of j ≡ (r, (w, v)) → (j ≡ i) ⊎ Memᴰ j (p ++ q)
@@ -60,4 +60,4 @@ module _ (m : ℕ) (before : List ℕ) (k i : ℕ) (writer : writer_of i < m) (b
       go r w v j e (inr h) = inl (subst (λ (b : Triple). Memᴰ b (each triple_of (p ++ q))) e (each_mem triple_of (p ++ q) j h))
 
   pub leaves_idle : (p q : List ℕ) → LeavesBy m before k (p ++ q) → LeavesBy m before k (p ++ (i ∷ q))
-  leaves_idle p q (o, r) = (o, (below_same (P (p ++ (i ∷ q))) (P (p ++ q)) k (spares p q) o).1 r)
+  leaves_idle p q (o, r) = (o, (idle_same (P (p ++ (i ∷ q))) (P (p ++ q)) k (spares p q) o).1 r)

@@ -9,7 +9,7 @@ use Rattle.std.specs.Prelude.{◌↔◌, Bool, cond, T}
 use mathlib.Core.List.{List, [], ◌∷◌, ◌++◌, Memᴰ}
 
 module _ {A : Type 0} where
-  -- 02 §8: "Then go through them from the first: drop a bar if the remaining bars together with happens_before still leave no order, else keep it."
+  -- 02 §8: "Then go through them from the first: drop a bar if the remaining bars together with happens-before still leave no order, else keep it."
   -- The remaining bars are those kept so far and those not yet tried.
   unfoldable pub kept_of : (List A → Bool) → List A → List A → List A
   kept_of test done [] = []

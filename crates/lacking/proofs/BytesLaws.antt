@@ -12,7 +12,7 @@ use native.Mathlib.Omega.{arith}
 use native.Mathlib.Decide.{dec_lt}
 use native.Mathlib.Nat.{eq-or-lt_of_le}
 use borrow.Author.Tests.{ltb-true, leb-true}
-use lib.Dec.{T, eqb, leb, ltb, eqb→eq, ltb→lt}
+use lib.Dec.{T, leb, ltb, eqb→eq, ltb→lt}
 use lib.ListN.{length, get_or, take}
 use lib.Seq.{take-suc, take-length}
 use Rattle.basis.specs.Test.{◌or◌, any}

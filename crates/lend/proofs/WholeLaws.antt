@@ -1,4 +1,4 @@
--- Of a sheet that the reader has accepted, the slices that its counts and places give are those of its table. Event by event: the data of a well_formed
+-- Of a sheet that the reader has accepted, the slices that its counts and places give are those of its table. Event by event: the data of a well-formed
 -- event is as long as its shape says, and is what was seen and then what was written. Assumes nothing.
 --     slices_whole                                      the slices
 --     events_long, data_long, rows_long, pairs_long     their lengths

@@ -1,5 +1,5 @@
 -- The replies of specs/Examples.antt, computed from the definitions by one statement, and the law that makes each a `Checked`. Assumes nothing.
---     reply_to s l          the reply as it computes, happens_before by a table of truth values (model/proofs/Outcome.antt)
+--     reply_to s l          the reply as it computes, happens-before by a table of truth values (model/proofs/Outcome.antt)
 --     replied              it is the one that is Checked
 --     right                the examples
 use mathlib.Core.Path.{◌≡◌, refl, sym, subst}

@@ -15,7 +15,7 @@ use Rattle.log_order.specs.Listed.{Trial, list_fault, said_of}
 use Rattle.log_check.specs.declared.Reply.{Reply}
 use Rattle.log_check.specs.declared.Reply.TheVariants.{Refused, Broken, Listed}
 
--- all its events, happens_before, its rows, and the V that a row bars: 01's "(R, W) and writing sc event V .. with any of: (a) .. (b) .. (c)"
+-- all its events, happens-before, its rows, and the V that a row bars: 01's "(R, W) and writing sc event V .. with any of: (a) .. (b) .. (c)"
 abbrev pub trial : Execution → (ℕ → ℕ → Bool) → Trial
 trial x hb = record { events = length x.events; before = hb; rows = x.rows; bars = row_bars x hb }
 

@@ -74,7 +74,7 @@ examples =
     ∷ of a (0 ∷ 1 ∷ 3 ∷ []) (not (WrongLength 3))
     ∷ of a (0 ∷ 1 ∷ 3 ∷ 2 ∷ 0 ∷ []) (not (WrongLength 5))
     ∷ of a (4 ∷ 4 ∷ []) (not (WrongLength 2))
-    -- out of range; repeated, at the second; the first of both kinds; before happens_before
+    -- out of range; repeated, at the second; the first of both kinds; before happens-before
     ∷ of a (0 ∷ 1 ∷ 4 ∷ 3 ∷ []) (not (BadNumber 2))
     ∷ of a (0 ∷ 1 ∷ 3 ∷ 255 ∷ []) (not (BadNumber 3))
     ∷ of a (0 ∷ 1 ∷ 3 ∷ 3 ∷ []) (not (BadNumber 3))

@@ -72,7 +72,7 @@ module _ (c : Trial) (l : List ℕ) where
   none_below : (p : ℕ → Bool) (n : ℕ) → ((i : ℕ) → i < n → p i ≡ false) → find p (from 0 n) ≡ none
   none_below p n f = none_find p (from 0 n) (λ i m t. let z = from_elim n 0 i m in not_both_ways (T_true (p i) t) (f i (omega (arith, z.1))))
 
-  -- ---- happens_before, at one place
+  -- ---- happens-before, at one place
 
   pub late_at : (i : ℕ) → early_at c l i ≡ true → (d : ℕ) × (d < c.events) × T (c.before d (get_or l i 0)) × Precedes (get_or l i 0) d l
   unfolding early_at

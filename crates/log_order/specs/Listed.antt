@@ -2,7 +2,7 @@
 -- number at place i. Laws: proofs/ListLaws.antt.
 --     stood l i e         the number e stands at one of the first i places of l
 --     ahead l a b         a stands in l, and b after it
---     Trial               what a list is held against: events, a test of happens_before, rows, and a test of the V that a row bars
+--     Trial               what a list is held against: events, a test of happens-before, rows, and a test of the V that a row bars
 --     bad_at n l i         the number at place i is out of range or repeated
 --     early_at c l i       the event at place i comes before one that happens before it
 --     barred_at c l (r, v) in the order V stands after W and before R of the row, which bars it

@@ -1,5 +1,5 @@
 -- What the crate promises beyond its function's contract. proofs/Promises.antt proves each. Assumes nothing.
---     Strict c            happens_before is of the trial's events, and no event happens before itself: what 22, which is tested first, leaves
+--     Strict c            happens-before is of the trial's events, and no event happens before itself: what 22, which is tested first, leaves
 --     AcceptedIsMeets     accepted are the lists that meet the trial's problem, and no others
 --     FaultMeans          what a named fault says of the list, in 02's words
 use Rattle.std.specs.Prelude.{ℕ, ◌<◌, ◌≡◌, ◌↔◌, List, T}

@@ -22,7 +22,7 @@ trial_in n t succ pred q m =
       bars = λ r v. mem (mask_in t (equals_in t n) succ pred r) v;
     }
 
--- 01: "A total order of all events meets the rules when it contains happens_before and there is no row (R, W) and writing sc event V placed
+-- 01: "A total order of all events meets the rules when it contains happens-before and there is no row (R, W) and writing sc event V placed
 -- after W and before R with any of: (a) .. (b) .. (c) .."
 abbrev pub problem_of : Trial → Problem
 problem_of c =

@@ -1,5 +1,5 @@
 -- What is Judged of a sheet is Judged of another, where the definitions say the same of what both describe. Assumes nothing.
---     Same x y           needed bytes, number of events, happens_before, orders, pair; and what breaks no rule in x breaks none in y
+--     Same x y           needed bytes, number of events, happens-before, orders, pair; and what breaks no rule in x breaks none in y
 --     judged_carried     and the rule that is answered is the one that y breaks first
 use mathlib.Core.Path.{◌≡◌, refl, sym, ap, subst, ◌∙◌}
 use mathlib.Core.Logic.{inl, inr}

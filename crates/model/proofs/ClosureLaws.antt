@@ -1,5 +1,5 @@
--- The table of happens_before of proofs/Outcome.antt. Assumes nothing.
---     table_tests     it tests happens_before
+-- The table of happens-before of proofs/Outcome.antt. Assumes nothing.
+--     table_tests     it tests happens-before
 use mathlib.Core.Path.{◌≡◌, ◌∙◌, ap, subst}
 use mathlib.Core.Bool.{Bool, false}
 use mathlib.Core.List.{List, []}
@@ -46,7 +46,7 @@ table_next : (n : ℕ) (t : List (List Bool)) (k a b : ℕ) → a < n → b < n
 unfolding warshall through
 table_next n t k a b i j = look_table n (through (warshall n k t) k) a b i j
 
--- A relation on the events, worked out by passes, tests happens_before.
+-- A relation on the events, worked out by passes, tests happens-before.
 pub passes_test : (x : Execution) → Sound x → (R : ℕ → ℕ → ℕ → Bool)
     → ((a b : ℕ) → a < length x.events → b < length x.events → R 0 a b ≡ step x a b)
     → ((k a b : ℕ) → k < length x.events → a < length x.events → b < length x.events → R (suc k) a b ≡ (R k a b or R k a k and R k k b))

@@ -48,7 +48,7 @@ use Rattle.model.proofs.VerdictLaws.{few_events, few_scratch, judged_verdict, ve
 use Rattle.model.proofs.FitLaws.{judged_fits, same_word}
 use Rattle.model.proofs.Single.{one_access, reduced}
 
--- a well_formed sheet is read as what it describes
+-- a well-formed sheet is read as what it describes
 whole_of : (s : List ℕ) (x : Execution) → WellSheet s x → parse s ≡ whole x
 whole_of s x w = (exactly s x).1 w
 
@@ -133,7 +133,7 @@ refuses s scratch order n p scratch' order' j =
     ⊎_elim (λ e. by_sheet (refusal s n p e)) (short_refuses s (length scratch) (length order) n p)
     (refused_cases s (length scratch) (length order) n p j.says)
 
--- where the answer is not a refusal, the sheet is well_formed
+-- where the answer is not a refusal, the sheet is well-formed
 judged_sheet : (s scratch order : List ℕ) (answer : Answer) (scratch' order' : List ℕ) → (IsRefused answer → ⊥) → Judged s scratch order answer scratch' order'
     → (x : Execution) × (parse s ≡ whole x)
 judged_sheet s scratch order (Refused n p) scratch' order' h j = absurd (h (n, p, refl))

@@ -1,5 +1,5 @@
 -- 02 §4: the head is not judged, so that two sheets with the same events, rows and pairs get the same answer; and whoever 25 names is tear-free.
--- No definition from happens_before on looks at the head. Assumes nothing.
+-- No definition from happens-before on looks at the head. Assumes nothing.
 --     by_record        the claim ByRecord of specs/Editions.antt            never_torn     the claim NeverTorn
 use mathlib.Core.Path.{◌≡◌, refl, sym, subst, ◌∙◌}
 use mathlib.Core.Bool.{Bool}

@@ -1,5 +1,5 @@
 -- 02 §12: with pairs removed, what was consistent stays so, its order still meets the rules, and what is orderly with fewer is orderly with more.
--- Fewer pairs, fewer steps: happens_before shrinks, and so do broken rules and bars. Assumes nothing.
+-- Fewer pairs, fewer steps: happens-before shrinks, and so do broken rules and bars. Assumes nothing.
 --     still_allowed, still_meets     fewer pairs keep an order that meets the rules, and no rule is broken
 --     still_orderly                  orderly with fewer pairs is orderly with more
 --     more_pairs                     the claim of specs/Fewer.antt, of two sheets

@@ -3,7 +3,7 @@
 --     row_step_lem                         a row whose two accesses synchronise is one step
 --     step_inside, happens_inside      both ends are events
 --     no-step, init_earliest           nothing happens before an init
---     tests_unique                     two tests of happens_before are one
+--     tests_unique                     two tests of happens-before are one
 --     closed_tests                     the closed rows of successors of the crate sets are such a test
 use mathlib.Core.Path.{◌≡◌, sym, ap, ◌∙◌, subst, fun_ext}
 use mathlib.Core.Logic.{◌⊎◌, inl, inr, ◌↔◌}
@@ -135,7 +135,7 @@ module _ (x : Execution) (so : Sound x) where
   init_earliest {d} {e} h (one s) = none_before h (step_cases x d e s)
   init_earliest {d} {e} h (more s k) = init_earliest h k
 
-  -- The closed rows of successors test happens_before; the rows behind the events are empty.
+  -- The closed rows of successors test happens-before; the rows behind the events are empty.
   module _ (rows closed : List ℕ) (steps : (e d : ℕ) → e < length x.events → Has (get_or rows e 0) d ↔ T (step x e d))
       (idle : (e : ℕ) → length x.events ≤ e → get_or rows e 0 ≡ 0) (c : Closed (length x.events) rows closed) where
     into : {e d : ℕ} → e < length x.events → Reach (length x.events) rows e d → Happens x e d

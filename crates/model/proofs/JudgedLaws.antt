@@ -1,7 +1,7 @@
 -- The laws of specs/Judged.antt. Assumes nothing.
 --     admitted_whole, whole_admitted     what is judged: the sheet describes it and both buffers are long enough, and back
 --     Short, refused_cases               what is refused: by the sheet itself, or for a short buffer
---     moved                              a fact about an execution and a test of its happens_before, with another test
+--     moved                              a fact about an execution and a test of its happens-before, with another test
 --     breaks_unique, judged_unique       two results that are Judged for the same inputs are equal
 use mathlib.Core.Path.{◌≡◌, refl, sym, ◌∙◌, ap, subst}
 use mathlib.Core.Logic.{◌⊎◌, inl, inr}

@@ -1,6 +1,6 @@
 -- The answer as it computes from the definitions, for every sheet and all lengths of the buffers: what the tables of proofs/Litmus.antt are tested
 -- with. That it is the one that specs/Judged.antt asks for: proofs/OutcomeLaws.antt. Assumes nothing.
---     table, look, warshall, hb_table       a relation as a table of truth values; happens_before, one more event in between at a time
+--     table, look, warshall, hb_table       a relation as a table of truth values; happens-before, one more event in between at a time
 --     bar_list, first_order                  the bars of an execution; the first order, by the search of orders/proofs/Search.antt
 --     Outcome, outcome s room places       the answer, the order reported, and how much of the scratch is cleared
 use mathlib.Core.Bool.{Bool, true, false}
@@ -24,7 +24,7 @@ use Rattle.model.specs.Bar.{row_bars}
 use Rattle.model.specs.Unsettled.{unsettled_pair}
 use Rattle.model.specs.Judged.{needed, admitted, settled_of}
 
--- ---- happens_before
+-- ---- happens-before
 
 unfoldable pub table : ℕ → (ℕ → ℕ → Bool) → List (List Bool)
 table n f = each (λ (a : ℕ). each (f a) (from 0 n)) (from 0 n)

@@ -1,5 +1,5 @@
 -- What the theorems need of an execution, over membership in the lists; it follows from what the reader promises. Assumes nothing.
---     Sound x, sound     of a well_formed execution
+--     Sound x, sound     of a well-formed execution
 use mathlib.Core.Path.{◌≡◌, sym, subst}
 use mathlib.Core.List.Memᴰ
 use mathlib.Core.List.{List, Memᴰ}

@@ -1,5 +1,5 @@
 -- The laws of specs/Verdict.antt: lent enough, the judge says of a sheet what is to be said of it. Assumes nothing.
---     few_events, few_scratch     what a well_formed sheet needs is at most what is enough for every sheet
+--     few_events, few_scratch     what a well-formed sheet needs is at most what is enough for every sheet
 --     judged_verdict              the answer and the order of a Judged result, where both buffers are enough
 --     verdict_few                 the order that is told has at most as many entries as a sheet can have events
 --     verdict_unique              of a sheet one thing is to be said

@@ -1,7 +1,7 @@
 -- What is claimed of the answers, for all sheets and buffers. Proved, a line each, in proofs/Demands.antt.
 --     Demand1        any bytes get an answer; a refusal is by 01's table and changes nothing; a read byte without a row is refused
---     Demand2        what consistent, broken and orderly mean of a well_formed sheet, and that it is not refused
---     Demand3        an orderly execution replays on a plain memory            Testable          happens_before has a test
+--     Demand2        what consistent, broken and orderly mean of a well-formed sheet, and that it is not refused
+--     Demand3        an orderly execution replays on a plain memory            Testable          happens-before has a test
 --     LeavesZero     what both buffers hold behind an answer that is no refusal
 --     Agreement      two answers agree, buffers too                            SaysTheVerdict    lent enough, the answer is the sheet's own
 --     OneVerdict     of a sheet one thing is to be said                        NeverShort        and that is never 12 or 13
@@ -11,7 +11,7 @@
 --     LitmusRight    the entries of a table, each Judged                       Reduction         today's sheets: 01's sentences over events
 --     LargestSheet   the most that a sheet has and needs, in numbers
 -- "Well-formed" is `WellSheet s x` (parse/specs/WellSheet.antt): 01's bullets, 02 §1 and §4, said without the reader, and `Exactly` there: the reader accepts
--- the well_formed sheets and no others.
+-- the well-formed sheets and no others.
 -- Assumes nothing.
 use Rattle.std.specs.Prelude.{◌≡◌, ◌⊎◌, ◌↔◌, Bool, ℕ, ◌≤◌, ◌<◌, ◌^◌, ◌/◌, max, T, length, get_or, take, drop}
 use mathlib.Core.List.{List, ◌++◌, Memᴰ}
@@ -100,7 +100,7 @@ Demand2 = (s scratch order : List ℕ) (answer : Answer) (scratch' order' : List
     → WellSheet s x → needed x ≤ length scratch → length x.events ≤ length order → Tests x hb
     → Judged s scratch order answer scratch' order' → Meant x hb answer order'
 
--- there is such a test of happens_before (and one: `tests_unique` in proofs/HappensLaws.antt)
+-- there is such a test of happens-before (and one: `tests_unique` in proofs/HappensLaws.antt)
 abbrev pub Testable : Type 0
 Testable = (s : List ℕ) (x : Execution) → WellSheet s x → (hb : ℕ → ℕ → Bool) × Tests x hb
 
@@ -140,7 +140,7 @@ pub record Largest (x : Execution) : Type 0 where
 abbrev pub LargestSheet : Type 0
 LargestSheet = (s : List ℕ) (x : Execution) → WellSheet s x → Largest x
 
--- Where the answer is not a refusal, the sheet is well_formed, and each byte of each read has exactly one row.
+-- Where the answer is not a refusal, the sheet is well-formed, and each byte of each read has exactly one row.
 pub record RowForEach (s : List ℕ) : Type 0 where
   pub execution : Execution
   pub sheet : WellSheet s execution
@@ -209,6 +209,6 @@ EntryRight e = (scratch order : List ℕ) → length scratch ≡ e.room → leng
 abbrev pub LitmusRight : List Entry → Type 0
 LitmusRight table = (e : Entry) → Memᴰ e table → EntryRight e
 
--- Of a well_formed sheet, the definitions of this crate are 01's sentences over events.
+-- Of a well-formed sheet, the definitions of this crate are 01's sentences over events.
 abbrev pub Reduction : Type 0
 Reduction = (s : List ℕ) (x : Execution) (hb : ℕ → ℕ → Bool) → WellSheet s x → Reduced x hb

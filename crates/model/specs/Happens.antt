@@ -40,6 +40,6 @@ pub data Happens (x : Execution) : ℕ → ℕ → Type 0 where
   one : {e d : ℕ} → T (step x e d) → Happens x e d
   more : {e d f : ℕ} → T (step x e d) → Happens x d f → Happens x e f
 
--- The rules ask a test of happens_before, so that each of them computes; the judge's masks are such a test.
+-- The rules ask a test of happens-before, so that each of them computes; the judge's masks are such a test.
 abbrev pub Tests : Execution → (ℕ → ℕ → Bool) → Type 0
 Tests x hb = (e d : ℕ) → T (hb e d) ↔ Happens x e d

@@ -1,5 +1,5 @@
 -- The rules 21 to 25 (01, "Rules, in the order they are tested"), each a test that passes where the rule is broken, over a test hb of
--- happens_before; and which of them is named. Laws: proofs/RulesLaws.antt.
+-- happens-before; and which of them is named. Laws: proofs/RulesLaws.antt.
 --     breaks21 x r, breaks22 hb e, breaks23 hb r, breaks24 x hb r v, breaks25 x r w v     the rule is broken there
 --     Fault, fault x hb                                                                   the first that is broken, and whom it names
 -- Assumes nothing.

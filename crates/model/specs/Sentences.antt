@@ -63,7 +63,7 @@ abbrev pub unsettled01 : Execution → (ℕ → ℕ → Bool) → ℕ → ℕ �
 unsettled01 x hb e d =
     ltb e d and non (hb e d) and non (hb d e) and overlap (shape x e) (shape x d) and (writes (shape x e) or writes (shape x d)) and non (sync01 x e d)
 
--- 01: "A total order of all events meets the rules when it contains happens_before and there is no row (R, W) and writing sc event V placed after
+-- 01: "A total order of all events meets the rules when it contains happens-before and there is no row (R, W) and writing sc event V placed after
 -- W and before R with any of: (a) .. (b) .. (c)"
 pub record Meets01 (x : Execution) (hb : ℕ → ℕ → Bool) (o : List ℕ) : Type 0 where
   pub events : (e : ℕ) → In e o → e < length x.events

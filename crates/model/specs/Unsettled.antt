@@ -1,5 +1,5 @@
 -- Unsettled pairs (01, "Rules", below the table). Laws: proofs/UnsettledLaws.antt.
---     clash a b              two accesses that happens_before has to settle
+--     clash a b              two accesses that happens-before has to settle
 --     unsettled x hb e d     e and d are an unsettled pair              unsettled_pair x hb     the lowest
 --     Orderly x hb           there is none
 -- Assumes nothing.

@@ -31,7 +31,7 @@ pub record SaidRefused (s : List ℕ) (n p : ℕ) (o : List ℕ) : Type 0 where
   pub says : parse s ≡ refused n p
   pub no_order_lem : o ≡ []
 
--- well_formed, and f is the rule first broken
+-- well-formed, and f is the rule first broken
 pub record SaidBroken (s : List ℕ) (f : Fault) (o : List ℕ) : Type 0 where
   pub execution : Execution
   pub sheet : WellSheet s execution
@@ -40,7 +40,7 @@ pub record SaidBroken (s : List ℕ) (f : Fault) (o : List ℕ) : Type 0 where
   pub breaks : Breaks execution hb f
   pub no_order_lem : o ≡ []
 
--- well_formed, no rule of 21 to 25 is broken, and o is the first order that meets the rules
+-- well-formed, no rule of 21 to 25 is broken, and o is the first order that meets the rules
 pub record SaidConsistent (s : List ℕ) (settled : Settled) (o : List ℕ) : Type 0 where
   pub execution : Execution
   pub sheet : WellSheet s execution

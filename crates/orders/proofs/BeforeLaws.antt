@@ -1,4 +1,4 @@
--- Without bars, happens_before leaves an order: of the events left, one has none of the others before it, and is placed next. Assumes nothing.
+-- Without bars, happens-before leaves an order: of the events left, one has none of the others before it, and is placed next. Assumes nothing.
 --     earliest         in a list with an entry, one before which no entry is
 --     before_leaves    some order meets the problem without bars
 use mathlib.Core.Path.{refl, subst}

@@ -1,9 +1,9 @@
 -- The promises of specs/Promises.antt hold. Assumes nothing.
-use Rattle.orders.specs.Promises.{FirstIsFirst, FirstBegins, PossibleIsMeets, FirstAgrees, PossibleAgrees, StepsAreOrders, DeadEnds, FewerKeep, SparedSame}
+use Rattle.orders.specs.Promises.{FirstIsFirst, FirstBegins, PossibleIsMeets, FirstAgrees, PossibleAgrees, StepsAreOrders, DeadEnds, FewerKeep, SparedSame, IdleSame}
 use Rattle.orders.proofs.StepLaws.{dead_here}
 use Rattle.orders.proofs.OrderLaws.{meets_runs, runs_meets, meets_fewer}
 use Rattle.orders.proofs.InitsLaws.{first_inits}
-use Rattle.orders.proofs.SameLaws.{below_same}
+use Rattle.orders.proofs.SameLaws.{below_same, idle_same}
 use Rattle.orders.proofs.AnswerLaws.{ordered_first, ordered_none, possible_meets, possible_none, answered_unique, told_unique}
 
 pub first_is_first : FirstIsFirst
@@ -32,3 +32,6 @@ fewer_keep = meets_fewer
 
 pub spared_same : SparedSame
 spared_same = below_same
+
+pub idles_same : IdleSame
+idles_same = idle_same

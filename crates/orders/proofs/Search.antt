@@ -1,4 +1,4 @@
--- The first order as it computes, over a test of happens_before and a list of bars: by trying the events in turn, lowest first, behind the inits.
+-- The first order as it computes, over a test of happens-before and a list of bars: by trying the events in turn, lowest first, behind the inits.
 -- That it is the first of `posed`: proofs/SearchLaws.antt. Assumes nothing.
 --     member, without            lists of events: e is in it; all but e
 --     first_of, gated, unless_done the first answer that there is; an answer only where a test passes; nothing more to do where no event is left

@@ -18,7 +18,7 @@ abbrev pub Distinct : List ℕ → Type 0
 Distinct [] = Unit {0}
 Distinct (x ∷ l) = (In x l → ⊥) × Distinct l
 
--- 01: "A total order of all events meets the rules when it contains happens_before and there is no row (R, W) and writing sc event V placed
+-- 01: "A total order of all events meets the rules when it contains happens-before and there is no row (R, W) and writing sc event V placed
 -- after W and before R with any of: (a) .. (b) .. (c) .."
 -- 02 §5: "the list names every event once and the order meets the rules of 01"
 pub record Meets (P : Problem) (l : List ℕ) : Type 0 where

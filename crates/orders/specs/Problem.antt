@@ -3,7 +3,7 @@
 use Rattle.std.specs.Prelude.{ℕ}
 
 -- The events are the numbers below `events`.
--- `Before a b`: a has to come before b (01: a total order "contains happens_before").
+-- `Before a b`: a has to come before b (01: a total order "contains happens-before").
 -- `Bar r w v`: 02 §8, "A bar is a triple (R, W, V) .. from which 01's (a), (b) or (c) forbids W, V, R in that order."
 pub record Problem : Type 1 where
   pub events : ℕ

@@ -7,7 +7,8 @@
 --     StepsAreOrders   one event at a time and whole orders say the same
 --     DeadEnds         a set from which every step leads to a dead set is dead
 --     FewerKeep        fewer bars and fewer constraints keep an order
---     SparedSame       bars in which R has to come before V, or V before W, which is no init, make no difference
+--     SparedSame       bars in which V has to come before W, which is no init, make no difference
+--     IdleSame         nor do bars in which R has to come before V
 use Rattle.std.specs.Prelude.{ℕ, ◌<◌, ◌≤◌, ◌≡◌, Bool, true, false, ◌↔◌, List, length, take, drop}
 use Rattle.basis.specs.Test.{from}
 use Rattle.orders.specs.Problem.{Problem}
@@ -15,7 +16,7 @@ use Rattle.orders.specs.Order.{Meets}
 use Rattle.orders.specs.First.{FirstOf}
 use Rattle.orders.specs.Step.{With, Below, Ready, Runs, Dead}
 use Rattle.orders.specs.Inits.{Begins}
-use Rattle.orders.specs.Spare.{Spares}
+use Rattle.orders.specs.Spare.{Spares, Idles}
 use Rattle.orders.specs.Tables.{tabled}
 use Rattle.orders.specs.Answer.{Fits, Told, Answered}
 
@@ -61,3 +62,6 @@ FewerKeep =
 
 abbrev pub SparedSame : Type 1
 SparedSame = (P Q : Problem) (k : ℕ) → Spares P Q k → (l : List ℕ) → Runs P (Below k) l ↔ Runs Q (Below k) l
+
+abbrev pub IdleSame : Type 1
+IdleSame = (P Q : Problem) (k : ℕ) → Idles P Q k → (l : List ℕ) → Runs P (Below k) l ↔ Runs Q (Below k) l

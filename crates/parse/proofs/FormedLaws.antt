@@ -3,8 +3,8 @@
 --     passed, passed_non            a ladder of tests goes on
 --     one_of_three                  a number among three
 --     Front, front_all, front_less  a list that begins with another
---     head_passes, event_passes, row_passes, pair_passes     a value of a well_formed execution has no fault
---     ends                          behind the last field of a well_formed execution nothing is missing
+--     head_passes, event_passes, row_passes, pair_passes     a value of a well-formed execution has no fault
+--     ends                          behind the last field of a well-formed execution nothing is missing
 -- Assumes nothing.
 use mathlib.Core.Path.{◌≡◌, refl, sym, ap, ◌∙◌, subst}
 use mathlib.Core.Logic.{◌⊎◌, inl, inr, ⊎_elim}
@@ -142,7 +142,7 @@ module _ (h : Head) (d : Event) (w : WellEvent h d) where
       both_hold _ _ inside_holds
       (both_hold _ _ formed_so (tear_holds a (record { byte = w.tear; must = w.tear_sc; none_else = w.tear_else })))
 
--- ---- the fields of a well_formed execution
+-- ---- the fields of a well-formed execution
 
 module _ (x : Execution) (w : WellFormed x) where
   pub head_passes : (v : List ℕ) → head_of (edition_of v) v ≡ x.head → length v ≡ head_bytes (edition_of v) → head_fault v ≡ 0

@@ -1,5 +1,5 @@
--- The reader accepts just the well_formed sheets, each as what it describes: specs/WellSheet.antt. What it accepts is well formed by `promise` and
--- `accepted_framed`; a well_formed sheet is walked field by field, each an entry of what the whole sheet describes, of which 01's bullets hold.
+-- The reader accepts just the well-formed sheets, each as what it describes: specs/WellSheet.antt. What it accepts is well formed by `promise` and
+-- `accepted_framed`; a well-formed sheet is walked field by field, each an entry of what the whole sheet describes, of which 01's bullets hold.
 --     accepted_well                 what is accepted is well formed
 --     well_accepted                 what is well formed is accepted
 --     exactly : Exactly             both

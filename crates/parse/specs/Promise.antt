@@ -1,4 +1,4 @@
--- What the reader promises of an execution: all that 01, "The sheet", and 02 §1 and §4 say of a well_formed one. The judge and its theorems use only this.
+-- What the reader promises of an execution: all that 01, "The sheet", and 02 §1 and §4 say of a well-formed one. The judge and its theorems use only this.
 -- Proved of `parse` in proofs/PromiseLaws.antt (`promise`); laws for those who cite it, over membership in the lists: crates/model/proofs/Sound.antt.
 --     WellEvent h d                 event d by itself, under the head h
 --     OneRow x e n                  exactly one row for byte n of event e

@@ -1,6 +1,6 @@
--- A well_formed sheet, said without the reader (01, "The sheet", and 02 §1 and §4); and that the reader accepts just those. Proved: proofs/WellSheetLaws.antt.
---     WellSheet s x     s is a well_formed sheet, and x is what it describes
---     Exactly           `parse` accepts the well_formed sheets, each as what it describes, and no others
+-- A well-formed sheet, said without the reader (01, "The sheet", and 02 §1 and §4); and that the reader accepts just those. Proved: proofs/WellSheetLaws.antt.
+--     WellSheet s x     s is a well-formed sheet, and x is what it describes
+--     Exactly           `parse` accepts the well-formed sheets, each as what it describes, and no others
 -- Assumes nothing.
 use Rattle.std.specs.Prelude.{◌≡◌, ◌↔◌, List, ℕ, ◌≤◌, length}
 use Rattle.format.specs.Limits.{max_bytes}

@@ -3,7 +3,7 @@
 --     SameAnswer        two sheets with the same word got the same answer
 --     WriteTells        the writer's answer, from its word alone
 --     WriteThenTable    "Reading what was written gives the table back": what was written, asked for its table, lends that table
---     TableThenWrite    "writing what was read from a well_formed sheet gives the same bytes": the table that a sheet was asked for, written, is the sheet
+--     TableThenWrite    "writing what was read from a well-formed sheet gives the same bytes": the table that a sheet was asked for, written, is the sheet
 --     CopyJudged        02 §4: a sheet and its copy at edition 2 (encode/specs/Copy.antt) get the same word from the judge, and the same is left in both
 --                       buffers
 --     CheckTells        the reply to a list, from its word alone

@@ -1,8 +1,8 @@
 -- The laws of specs/Prepared.antt. Assumes nothing.
---     ruled_bytes, ruled_found, ruled_rest     how the code's answers are made: by 21, by happens_before, and by the rules one after another
+--     ruled_bytes, ruled_found, ruled_rest     how the code's answers are made: by 21, by happens-before, and by the rules one after another
 --     readied_bytes, -clean, -rest     the same with the list: by 21, where one pass found nothing, by the rules one after another
 --     readied_listed                   a count below `list_room` is that of a list of what the rows bar
---     ruled_unique                 two conforming results are equal: happens_before and the rule, and the masks where none is broken
+--     ruled_unique                 two conforming results are equal: happens-before and the rule, and the masks where none is broken
 use mathlib.Core.Path.{◌≡◌, refl, sym, ap, ◌∙◌, subst}
 use mathlib.Core.Bool.{Bool, true, false, cond, false≢true}
 use mathlib.Core.List.{List}

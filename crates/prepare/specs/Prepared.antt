@@ -1,5 +1,5 @@
 -- What is found of tables, whatever they hold. Laws: proofs/PreparedLaws.antt. Who cites it: weigh/proofs/WeighedLaws, log_check/proofs/CheckedLaws.
---     Ruled s x t q succ succ' ..     the happens_before of these tables and of the sheet's pairs, and the first broken rule of 21 to 25, among so many
+--     Ruled s x t q succ succ' ..     the happens-before of these tables and of the sheet's pairs, and the first broken rule of 21 to 25, among so many
 --                                     events and rows as the counts say and have a place; the masks are left where none is broken
 --     Readied s x t q ..              the same; and where none is broken, what one pass over the rows lists (crate sift), as many entries as the count says;
 --                                     none where the pass was not clean, and the count is `list_room` then

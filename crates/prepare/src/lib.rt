@@ -1,4 +1,4 @@
-// What is found before an order is sought or a list is held against the sheet: happens_before is made of tables, and the rules 21 to 25 are tried, 21
+// What is found before an order is sought or a list is held against the sheet: happens-before is made of tables, and the rules 21 to 25 are tried, 21
 // first, which asks for none; mostly none is broken, and one pass over the rows tells so and lists the bars by the way. Total: nothing is asked of the
 // sheet, the counts, the places or the tables. The judge calls `ready`, the check of a list `rule`: each has one caller, so that the compiler puts it
 // in place there.
@@ -43,7 +43,7 @@ fn order(
     before::fill(t, events, q, rows, &p, pairs, succ, pred);
 }
 
-// The first broken rule; where none is, happens_before by rows and by columns is left in what was lent, and a list of bars.
+// The first broken rule; where none is, happens-before by rows and by columns is left in what was lent, and a list of bars.
 pub fn ready(
     s: &[u8],
     x: Counts,

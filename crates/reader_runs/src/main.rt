@@ -92,7 +92,9 @@ fn one(rt: &HostRuntime, space: &mut [u8]) -> io::Result<bool>
     }
     let n = length_of(head[0], head[1]);
     if SPACE < n {
-        rt.stderr().write_all(b"reader_runs: a sheet of more than 4,097 bytes; nothing behind it is read\n")?;
+        rt.stderr().write_all(
+            b"reader_runs: a sheet of more than 4,097 bytes; nothing behind it is read\n",
+        )?;
         return Ok(false);
     }
     sheet_of(rt, space, n)

@@ -31,20 +31,33 @@ fn main(rt: HostRuntime) -> io::Result<()> {
     show(&rt, Answer::Refused(11, 15), b"")?;
     show(&rt, Answer::Broken(21, Names::Row(1, 0, 0)), b"")?;
     show(&rt, Answer::Broken(24, Names::Between(4, 0, 1, 0)), b"")?;
-    show(&rt, Answer::Consistent(Settled::Unsettled(1, 4)),
-        b"\x00\x01\x02\x03\x04")?;
+    show(
+        &rt,
+        Answer::Consistent(Settled::Unsettled(1, 4)),
+        b"\x00\x01\x02\x03\x04",
+    )?;
     show(&rt, Answer::Broken(26, Names::Nobody), b"")?;
     show(&rt, Answer::Broken(22, Names::Event(1)), b"")?;
     show(&rt, Answer::Broken(23, Names::Row(1, 2, 0)), b"")?;
     show(&rt, Answer::Broken(25, Names::Torn(3, 1, 2)), b"")?;
-    show(&rt, Answer::Consistent(Settled::Orderly),
-        b"\x00\x03\x01\x02\x04\x05\x06")?;
+    show(
+        &rt,
+        Answer::Consistent(Settled::Orderly),
+        b"\x00\x03\x01\x02\x04\x05\x06",
+    )?;
     show(&rt, Answer::Refused(1, 0), b"\x07")?;
     show(&rt, Answer::Refused(9, 4096), b"")?;
     show(&rt, Answer::Refused(255, 4294967295), b"")?;
-    show(&rt, Answer::Broken(24, Names::Between(19, 10, 9, 63)), b"\x07")?;
+    show(
+        &rt,
+        Answer::Broken(24, Names::Between(19, 10, 9, 63)),
+        b"\x07",
+    )?;
     show(&rt, Answer::Consistent(Settled::Orderly), b"")?;
-    show(&rt, Answer::Consistent(Settled::Unsettled(9, 10)),
-        b"\x09\x0a\x63\x64\xff")?;
+    show(
+        &rt,
+        Answer::Consistent(Settled::Unsettled(9, 10)),
+        b"\x09\x0a\x63\x64\xff",
+    )?;
     short(&rt)
 }

@@ -187,7 +187,7 @@ fn rule24(
     Rule::Kept
 }
 
-// 21 alone: it asks for no happens_before. Most sheets keep it, and one test over all rows tells.
+// 21 alone: it asks for no happens-before. Most sheets keep it, and one test over all rows tells.
 pub fn bytes(q: &[u8; ROW_CELLS], n: usize) -> Rule
     ensures { result ≡ rule21_in q.now (min n row_room) }
 {

@@ -1,7 +1,7 @@
 -- The laws of specs/Settle.antt. Assumes nothing.
 --     clash_apart, clash_meet, clash_left, clash_right     when two accesses clash
 --     ahead_is                       the mask of those to try
---     free_shut, free_open           a pair that happens_before settles, and another
+--     free_shut, free_open           a pair that happens-before settles, and another
 --     partner_start, partner_hit, partner_end     a loop over those to try
 --     settled_found, settled_none    what the search answers
 use Rattle.std.proofs.Common.{◌≡◌, ℕ, ◌+◌, ◌<◌, ◌≤◌, min, Bool, true, false, cond, ltb, List, get_or, sym, ap, ◌∙◌, arith, ltb-true, le-ltb, lt-ltb}

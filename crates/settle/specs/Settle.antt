@@ -1,5 +1,5 @@
 -- Unsettled pairs over the tables. Laws: proofs/SettleLaws.antt.
---     clashing a b           two accesses that happens_before has to settle       clash_in t e d     one of e and one of d are
+--     clashing a b           two accesses that happens-before has to settle       clash_in t e d     one of e and one of d are
 --     open_in t succ e d      e and d, e below d, are an unsettled pair
 --     partner_in t succ n e   the lowest d below n that is open with e; n where none is
 --     settled_in t succ n     orderly, or the lowest pair

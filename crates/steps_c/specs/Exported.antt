@@ -1,6 +1,6 @@
 -- What two steps say together, as masks and one number.
 --     rule_word r           the word of the answer that a broken rule is, with its number and its names; 0 where every rule is kept
---     StepsRuled t n ..    happens_before, and the word of the first rule that it breaks
+--     StepsRuled t n ..    happens-before, and the word of the first rule that it breaks
 --     StepsBarred t n ..   the bars, and the word of orderly or of the lowest unsettled pair
 -- Assumes nothing.
 use Rattle.std.specs.Prelude.{◌≡◌, List, ℕ, min}

@@ -18,7 +18,7 @@ pub const AGENTS: usize = 16;
 // A column of 32 agents, then five of 64: kind, mode, start, width, tear.
 pub const COLUMNS: usize = 352;
 
-// A well_formed sheet has at most 8 rows for each access of its events that are not inits: 144 today, 288 with 02 §11.
+// A well-formed sheet has at most 8 rows for each access of its events that are not inits: 144 today, 288 with 02 §11.
 pub const ROWS: usize = 288;
 
 // Five columns: reader, flat byte, writer, seen, wrote.

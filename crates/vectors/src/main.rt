@@ -63,7 +63,10 @@ fn told(rt: &HostRuntime, s: &[u8]) {
 
 // Says that a sheet is not whole.
 fn cut(rt: &HostRuntime) {
-    say(rt, b"vectors: the input ends inside a sheet, or a read failed\n");
+    say(
+        rt,
+        b"vectors: the input ends inside a sheet, or a read failed\n",
+    );
 }
 
 // After a read of less than a length: says so, unless this is the plain end of the input. A read that failed fails again.

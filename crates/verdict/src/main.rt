@@ -49,7 +49,10 @@ fn print(rt: &HostRuntime, sheet: &[u8], line: &[u8])
     requires { Line sheet.now line.now }
 {
     if rt.write_all(line).is_err() {
-        say(rt, b"verdict: the line could not be written: see that standard output is open and has room\n");
+        say(
+            rt,
+            b"verdict: the line could not be written: see that standard output is open and has room\n",
+        );
     }
 }
 
@@ -71,7 +74,10 @@ fn judge(rt: &HostRuntime, sheet: &[u8]) {
 
 // Says that a read failed.
 fn unread(rt: &HostRuntime) {
-    say(rt, b"verdict: standard input could not be read, and nothing was judged: give a sheet, as ./verdict FILE\n");
+    say(
+        rt,
+        b"verdict: standard input could not be read, and nothing was judged: give a sheet, as ./verdict FILE\n",
+    );
 }
 
 // Reads the sheet and judges it; where a read fails nothing is judged.

@@ -2,7 +2,7 @@
 --     broken_in x t q succ pred          the first broken rule of 21 to 25, among so many events and rows as the counts say and have a place
 --     Breached need number names ..     a rule is broken: its number and names, the scratch cleared, the order buffer as it was
 --     Decided k n m .. rule ..          what follows from the first broken rule; where there is none, the last step
---     Weighed s x t q need ..           the happens_before of these tables and of the sheet's pairs, and what follows from its rules
+--     Weighed s x t q need ..           the happens-before of these tables and of the sheet's pairs, and what follows from its rules
 -- Assumes nothing.
 use Rattle.std.specs.Prelude.{◌≡◌, List, ℕ, min, replicate}
 use Rattle.entries.specs.declared.Counts.{Counts}

@@ -1,4 +1,4 @@
-// Tables, weighed: crate `prepare` makes happens_before, tries the rules 21 to 25 and lists the bars, and where no rule is broken the last step follows.
+// Tables, weighed: crate `prepare` makes happens-before, tries the rules 21 to 25 and lists the bars, and where no rule is broken the last step follows.
 // Total: nothing is asked of the sheet, the counts, the tables or the buffers.
 #![tactic(auto)]
 

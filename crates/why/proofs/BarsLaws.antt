@@ -6,7 +6,7 @@
 --     part_begins           with a part of them the inits may stand first
 --     no_order, tells_none, some_order      the test, and that it is one
 --     ordered_fewer         fewer bars keep an order
---     before_alone          where 22 is not broken, happens_before alone leaves an order
+--     before_alone          where 22 is not broken, happens-before alone leaves an order
 use mathlib.Core.Path.{◌≡◌, refl, sym, ap, ◌∙◌, subst}
 use mathlib.Core.Logic.{◌↔◌}
 use mathlib.Core.Bool.{Bool, true, false}

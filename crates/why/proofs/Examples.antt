@@ -1,5 +1,5 @@
 -- The explanations of specs/Examples.antt, computed from the definitions by one statement, and the law that makes each an `Explained`. Assumes nothing.
---     Said, say_of s room places     the explanation and the kept list as they compute, happens_before by a table of truth values (model/proofs/Outcome.antt)
+--     Said, say_of s room places     the explanation and the kept list as they compute, happens-before by a table of truth values (model/proofs/Outcome.antt)
 --     said                          it is the one that is Explained
 --     right                         the examples
 use mathlib.Core.Path.{◌≡◌, refl, sym, ap, ◌∙◌, subst}

@@ -319,7 +319,7 @@ module _ {s : List ℕ} {x : Counts} {at : List ℕ} (h : HandedWhole s x at) {t
 -- ---- agreement
 
 module _ (s scratch bars : List ℕ) where
-  -- the same of another result's execution and test of happens_before
+  -- the same of another result's execution and test of happens-before
   carry : {x y : Execution} {f g : ℕ → ℕ → Bool} → scratched (length scratch) (parse s) ≡ whole x → scratched (length scratch) (parse s) ≡ whole y → Tests x f → Tests y g
       → (P : Execution → (ℕ → ℕ → Bool) → Type 0) → P x f → P y g
   carry {x} {y} {f} {g} d e i j P p = moved (same_whole d e) f g i j P p

@@ -1,7 +1,7 @@
 -- What is claimed of the explanations, for all sheets and buffers (02 §8). Proved in proofs/Demands.antt.
 --     EveryWhy        every sheet and both buffers get an explanation            Agreement      and one, buffers too
 --     KeptMeans       what the kept list is: a part of the bars, rising, which leaves no order, and without any one of which some order exists
---     KeptNever       it is empty exactly where happens_before alone leaves no order, and that never comes
+--     KeptNever       it is empty exactly where happens-before alone leaves no order, and that never comes
 --     ThreeEvents     a bar names three different events of the sheet
 --     AsTheJudge      a sheet that is not broken by 26 gets the judge's own answer; one that is, a kept list (or 16)
 --     KeptExactly     a kept list (or 16) comes exactly where the judge says 26
@@ -64,14 +64,14 @@ pub record Stands (x : Execution) (hb : ℕ → ℕ → Bool) (n : ℕ) (bars ba
   pub core : Core x hb list
   pub count : length list ≡ n
   pub front : bars' ≡ bytes_of list ++ drop (n * 3) bars
-  -- nothing is kept exactly where happens_before alone leaves no order
+  -- nothing is kept exactly where happens-before alone leaves no order
   pub nothing : (n ≡ 0) ↔ (OrderedBy x hb [] → ⊥)
 
 abbrev pub KeptMeans : Type 0
 KeptMeans = (s scratch bars : List ℕ) (n : ℕ) (scratch' bars' : List ℕ) (x : Execution) (hb : ℕ → ℕ → Bool) → WellSheet s x → Tests x hb
     → Explained s scratch bars (Kept n) scratch' bars' → NoOrder x hb × Stands x hb n bars bars'
 
--- a sheet that passed 22 has an order that meets happens_before; so some bar is always kept
+-- a sheet that passed 22 has an order that meets happens-before; so some bar is always kept
 abbrev pub KeptNever : Type 0
 KeptNever = (s scratch bars scratch' bars' : List ℕ) → Explained s scratch bars (Kept 0) scratch' bars' → ⊥
 

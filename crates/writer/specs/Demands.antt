@@ -2,8 +2,8 @@
 --     Agree          any two answers for one table and one buffer are the same, and leave the same
 --     ReadsBack      "Reading what was written gives the table back"
 --     WrittenBack    writing what was read gives the same bytes: of any bytes that the reader accepts
---     WritesBack     "writing what was read from a well_formed sheet gives the same bytes", in the buffer
---     WritesExactly  given room, a table is written exactly where it is that of a well_formed execution, 01's bullets, 02 §1 and §4
+--     WritesBack     "writing what was read from a well-formed sheet gives the same bytes", in the buffer
+--     WritesExactly  given room, a table is written exactly where it is that of a well-formed execution, 01's bullets, 02 §1 and §4
 --     Refuses        "It refuses exactly what the reader would refuse .., with the same number .., the place being the index in the table at fault ..;
 --                    then 15, place 0, if the buffer is shorter than the sheet. A refused call leaves the buffer unchanged"
 --     Numbers        so a refusal is 1, 4 to 11, 14 or 15: never 2 or 3

@@ -1,4 +1,4 @@
--- `prepare::order` meets its contract: the pairs, then happens_before. Assumes nothing.
+-- `prepare::order` meets its contract: the pairs, then happens-before. Assumes nothing.
 use borrow.Author.Rules.{rules}
 use Rattle.prepare.proofs.order.Statement.{statement}
 use Rattle.prepare.proofs.order.Tie as tie

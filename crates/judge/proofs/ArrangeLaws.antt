@@ -81,14 +81,14 @@ module _ {s : List ℕ} {k n m : ℕ} {t q succ pred scratch order : List ℕ} (
     cleaned : scratch' ≡ cleared (needed X) scratch
     cleaned = o.clean ∙ ap (λ (i : ℕ). cleared (bytes_for i) scratch) room
 
-    no_order_lem : r ≡ false → JudgedBroken s scratch order (faulty 26 Nobody) scratch' order'
-    no_order_lem z =
+    no_order : r ≡ false → JudgedBroken s scratch order (faulty 26 Nobody) scratch' order'
+    no_order z =
         record {
           execution = X;
           describes = u.describes;
           hb = hb_of succ;
           tests = u.held.tests;
-          breaks = inr (record { names = refl; unbroken = u.kept; no_order_lem = λ l w. ordered_none (held_begins u.held so u.starts) o z l ((meets_same P Q events (held_before u.held so) (held_problem u.held so) l).1 w) });
+          breaks = inr (record { names = refl; unbroken = u.kept; no_order = λ l w. ordered_none (held_begins u.held so u.starts) o z l ((meets_same P Q events (held_before u.held so) (held_problem u.held so) l).1 w) });
           scratch_cleared = cleaned;
           order_kept = o.kept z;
         }
@@ -114,4 +114,4 @@ module _ {s : List ℕ} {k n m : ℕ} {t q succ pred scratch order : List ℕ} (
     where
       go : (b : Bool) → a.found ≡ b → Judged s scratch order (said_of a.found (settled_in t succ (min n slots))) scratch' order'
       go true e = rw e (an_order a.searched e)
-      go false e = rw e (no_order_lem a.searched e)
+      go false e = rw e (no_order a.searched e)

@@ -151,7 +151,7 @@ as_the_judge s l scratch order (JudgeBroken n names) scratch' order' r j k = go 
     go (inl e) = inl (broken_of s l j.execution j.hb d j.tests (faulty n names) e r k)
     go (inr u) =
         let i = said_of_lem s l j.execution j.hb d j.tests u.unbroken r k in
-        let w = rejected u.unbroken u.no_order_lem (said_of (list_fault (trial j.execution j.hb) l)) refl in
+        let w = rejected u.unbroken u.no_order (said_of (list_fault (trial j.execution j.hb) l)) refl in
         inr (ap (λ (f : RuleFault). f.number) u.names, (w.0, i ∙ w.1))
 as_the_judge s l scratch order (Consistent t) scratch' order' r j k =
     let d = (admitted_whole s (length scratch) (length order) j.execution j.describes).describes in

@@ -63,7 +63,7 @@ module _ (s t : List ℕ) (x y : Execution) (d : parse s ≡ whole x) (e : parse
   breaks_there : (n : ℕ) (names : Names) (hb : ℕ → ℕ → Bool) → Kept x y (Broken n names) → Breaks x hb (faulty n names) → Breaks y hb (faulty n names)
   breaks_there n names hb h (inl k) = inl (h n names hb refl k)
   breaks_there n names hb h (inr u) =
-      inr (record { names = u.names; unbroken = same.unbroken hb u.unbroken; no_order_lem = λ o m. u.no_order_lem o (subst (λ (r : Problem). Meets r o) (sym (same.orders hb)) m) })
+      inr (record { names = u.names; unbroken = same.unbroken hb u.unbroken; no_order = λ o m. u.no_order o (subst (λ (r : Problem). Meets r o) (sym (same.orders hb)) m) })
 
   pub judged_carried : (answer : Answer) (p q : List ℕ) → Kept x y answer → Judged s scratch order answer p q → Judged t scratch order answer p q
   judged_carried (Refused n k) p q h j = record { says = says_there n k j.says; scratch_kept = j.scratch_kept; order_kept = j.order_kept }

@@ -108,7 +108,7 @@ breaks_unique x hb f g (inr a) (inr b) = cc
 -- a broken one is not consistent
 pub breaks_not : (x : Execution) (hb : ℕ → ℕ → Bool) (f : Fault) (o : List ℕ) → Breaks x hb f → fault x hb ≡ none → Meets (problem x hb) o → ⊥
 breaks_not x hb f o (inl a) b m = let z : ◌≡◌ {A = ℕ} 0 1 = cc in omega arith
-breaks_not x hb f o (inr a) b m = a.no_order_lem o m
+breaks_not x hb f o (inr a) b m = a.no_order o m
 
 module _ (s scratch order : List ℕ) where
   module _ (f g : Fault) (p q p' q' : List ℕ) (j : JudgedBroken s scratch order f p q) (k : JudgedBroken s scratch order g p' q') where

@@ -239,4 +239,4 @@ module _ (x : Execution) (hb : ℕ → ℕ → Bool) (wf : WellFormed x) (so : S
   breaks_first f (inl e) = fault_first f e
   breaks_first f (inr u) =
       let c = clean x hb u.unbroken in
-      named 26 Nobody f (at_26 u.no_order_lem) (record { p21 = λ h. c.c21; p22 = λ h. c.c22; p23 = λ h. c.c23; p24 = λ h. c.c24; p25 = λ h. c.c25; p26 = omega arith }) (sym u.names)
+      named 26 Nobody f (at_26 u.no_order) (record { p21 = λ h. c.c21; p22 = λ h. c.c22; p23 = λ h. c.c23; p24 = λ h. c.c24; p25 = λ h. c.c25; p26 = omega arith }) (sym u.names)

@@ -46,7 +46,7 @@ module _ (sound : (s : List ℕ) (x : Execution) → parse s ≡ whole x → Sou
           describes = e;
           hb = hb;
           tests = tests;
-          breaks = inr (record { names = refl; unbroken = q; no_order_lem = found });
+          breaks = inr (record { names = refl; unbroken = q; no_order = found });
           scratch_cleared = refl;
           order_kept = refl;
         }

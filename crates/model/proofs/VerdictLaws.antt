@@ -57,14 +57,14 @@ module _ (s scratch order : List ℕ) (enough : max_scratch ≤ length scratch) 
   judged_verdict (Refused n p) j =
       record {
         told = [];
-        verdict = record { says = by_sheet s (length scratch) (length order) enough fit n p j.says; no_order_lem = refl };
+        verdict = record { says = by_sheet s (length scratch) (length order) enough fit n p j.says; no_order = refl };
         front = j.order_kept;
         events = λ e h. absurd h;
       }
   judged_verdict (Broken n names) j =
       record {
         told = [];
-        verdict = record { execution = j.execution; sheet = sheet_of j.describes; hb = j.hb; tests = j.tests; breaks = j.breaks; no_order_lem = refl };
+        verdict = record { execution = j.execution; sheet = sheet_of j.describes; hb = j.hb; tests = j.tests; breaks = j.breaks; no_order = refl };
         front = j.order_kept;
         events = λ e h. absurd h;
       }
@@ -89,8 +89,8 @@ module _ (s scratch order : List ℕ) (enough : max_scratch ≤ length scratch) 
 
 -- the order that is told has as many entries as a sheet can have events, at most
 pub verdict_few : (s : List ℕ) (a : Answer) (o : List ℕ) → Verdict s a o → length o ≤ max_events
-verdict_few s (Refused n p) o v = omega (arith, ap length v.no_order_lem)
-verdict_few s (Broken n names) o v = omega (arith, ap length v.no_order_lem)
+verdict_few s (Refused n p) o v = omega (arith, ap length v.no_order)
+verdict_few s (Broken n names) o v = omega (arith, ap length v.no_order)
 verdict_few s (Consistent t) o v =
     let x = v.execution in
     let w = v.sheet.well_formed in
@@ -109,7 +109,7 @@ module _ (s : List ℕ) where
   broken_said f g o q a b = (
     breaks_unique b.execution b.hb f g
         (moved (same_sheet a.sheet b.sheet) a.hb b.hb a.tests b.tests (λ x hb. Breaks x hb f) a.breaks) b.breaks,
-    a.no_order_lem ∙ sym b.no_order_lem,
+    a.no_order ∙ sym b.no_order,
   )
 
   broken_not : (f : Fault) (t : Settled) (o q : List ℕ) → SaidBroken s f o → SaidConsistent s t q → ⊥
@@ -120,7 +120,7 @@ module _ (s : List ℕ) where
   pub verdict_unique : (a b : Answer) (o q : List ℕ) → Verdict s a o → Verdict s b q → (a ≡ b) × (o ≡ q)
   verdict_unique (Refused n m) (Refused n' m') o q j k = (
     (let e : refused n m ≡ refused n' m' = sym j.says ∙ k.says in let d : n ≡ n' = cc in let c : m ≡ m' = cc in cc),
-    j.no_order_lem ∙ sym k.no_order_lem,
+    j.no_order ∙ sym k.no_order,
   )
   verdict_unique (Refused n m) (Broken n' w) o q j k = absurd (never_both (whole_of k.sheet) j.says)
   verdict_unique (Refused n m) (Consistent t) o q j k = absurd (never_both (whole_of k.sheet) j.says)

@@ -39,7 +39,7 @@ admitted s room places = lent room places (parse s)
 pub record Unordered (x : Execution) (hb : ℕ → ℕ → Bool) (f : Fault) : Type 0 where
   pub names : f ≡ faulty 26 Nobody
   pub unbroken : fault x hb ≡ none
-  pub no_order_lem : (o : List ℕ) → Meets (problem x hb) o → ⊥
+  pub no_order : (o : List ℕ) → Meets (problem x hb) o → ⊥
 
 abbrev pub Breaks : Execution → (ℕ → ℕ → Bool) → Fault → Type 0
 Breaks x hb f = (fault x hb ≡ some f) ⊎ Unordered x hb f

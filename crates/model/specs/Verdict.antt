@@ -29,7 +29,7 @@ max_scratch = bytes_for max_others
 -- refused by 1 to 11 or 14
 pub record SaidRefused (s : List ℕ) (n p : ℕ) (o : List ℕ) : Type 0 where
   pub says : parse s ≡ refused n p
-  pub no_order_lem : o ≡ []
+  pub no_order : o ≡ []
 
 -- well-formed, and f is the rule first broken
 pub record SaidBroken (s : List ℕ) (f : Fault) (o : List ℕ) : Type 0 where
@@ -38,7 +38,7 @@ pub record SaidBroken (s : List ℕ) (f : Fault) (o : List ℕ) : Type 0 where
   pub hb : ℕ → ℕ → Bool
   pub tests : Tests execution hb
   pub breaks : Breaks execution hb f
-  pub no_order_lem : o ≡ []
+  pub no_order : o ≡ []
 
 -- well-formed, no rule of 21 to 25 is broken, and o is the first order that meets the rules
 pub record SaidConsistent (s : List ℕ) (settled : Settled) (o : List ℕ) : Type 0 where

@@ -4,7 +4,7 @@
 --     bars_rise bars_few    it rises; how many there can be
 --     all_bars_lem              with all of them it is the judge's own problem
 --     part_begins           with a part of them the inits may stand first
---     no_order, tells_none, some_order      the test, and that it is one
+--     lacks_order, tells_none, some_order      the test, and that it is one
 --     ordered_fewer         fewer bars keep an order
 --     before_alone          where 22 is not broken, happens-before alone leaves an order
 use mathlib.Core.Path.{◌≡◌, refl, sym, ap, ◌∙◌, subst}
@@ -69,8 +69,8 @@ unfoldable pub lacks : Option (List ℕ) → Bool
 lacks none = true
 lacks (some o) = false
 
-unfoldable pub no_order : Execution → (ℕ → ℕ → Bool) → List Triple → Bool
-no_order x hb l = lacks (order_in (inits x.events) (others x.events) hb l)
+unfoldable pub lacks_order : Execution → (ℕ → ℕ → Bool) → List Triple → Bool
+lacks_order x hb l = lacks (order_in (inits x.events) (others x.events) hb l)
 
 module _ (x : Execution) (hb : ℕ → ℕ → Bool) (so : Sound x) (tests : Tests x hb) where
   abbrev n : ℕ
@@ -121,12 +121,12 @@ module _ (x : Execution) (hb : ℕ → ℕ → Bool) (so : Sound x) (tests : Tes
     some_of none f e = let z : ◌≡◌ {A = ℕ} 0 1 = cc in absurd (omega arith)
     some_of (some o) f e = (o, f.is)
 
-  pub tells_none : TellsNone (no_order x hb) (OrderedBy x hb) (all_bars x hb)
-  unfolding no_order
+  pub tells_none : TellsNone (lacks_order x hb) (OrderedBy x hb) (all_bars x hb)
+  unfolding lacks_order
   tells_none l p = tells l p (order_in (inits x.events) (others x.events) hb l) (found l p)
 
-  pub some_order : (l : List Triple) → ((b : Triple) → Memᴰ b l → Memᴰ b (all_bars x hb)) → no_order x hb l ≡ false → OrderedBy x hb l
-  unfolding no_order
+  pub some_order : (l : List Triple) → ((b : Triple) → Memᴰ b l → Memᴰ b (all_bars x hb)) → lacks_order x hb l ≡ false → OrderedBy x hb l
+  unfolding lacks_order
   some_order l p e = some_of l p (order_in (inits x.events) (others x.events) hb l) (found l p) e
 
   pub before_alone : fault x hb ≡ none → OrderedBy x hb []

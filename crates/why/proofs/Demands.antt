@@ -49,7 +49,7 @@ use Rattle.why.specs.Bars.{all_bars, OrderedBy}
 use Rattle.why.specs.Explained.{scratched, NoOrder, kept_bars, Explained}
 use Rattle.why.specs.Word.{FitsWhy}
 use Rattle.why.specs.Demands.{Result, EveryWhy, Agreement, Core, Stands, KeptMeans, KeptNever, ThreeEvents, IsKept, Alike, AsTheJudge, KeptExactly, Untouched, RoomEnough, FitsWord}
-use Rattle.why.proofs.BarsLaws.{no_order, bars_is, three, bars_rise, bars_few, ordered_fewer, tells_none, before_alone}
+use Rattle.why.proofs.BarsLaws.{lacks_order, bars_is, three, bars_rise, bars_few, ordered_fewer, tells_none, before_alone}
 use Rattle.why.proofs.ExplainedLaws.{scratched_whole, whole_scratched, refused_sheet, kept_of_lem, explained_unique}
 use Rattle.why.proofs.WordLaws.{explanation_in_lem}
 
@@ -61,7 +61,7 @@ module _ (s scratch bars : List ℕ) where
     so = sound x (promise s x (scratched_whole s (length scratch) x d).describes)
 
     abbrev list : List Triple
-    list = kept_bars (no_order x hb) x hb
+    list = kept_bars (lacks_order x hb) x hb
 
     -- 26: the kept list, or 16
     told_kept : NoOrder x hb → (r : Result s scratch bars) × IsKept r.answer
@@ -79,7 +79,7 @@ module _ (s scratch bars : List ℕ) where
               hb = hb;
               tests = tests;
               broken = n;
-              test = no_order x hb;
+              test = lacks_order x hb;
               tells = tells_none x hb so tests;
               over = l;
               scratch_cleared = refl;
@@ -99,7 +99,7 @@ module _ (s scratch bars : List ℕ) where
               hb = hb;
               tests = tests;
               broken = n;
-              test = no_order x hb;
+              test = lacks_order x hb;
               tells = tells_none x hb so tests;
               count = refl;
               room = omega arith;
@@ -111,7 +111,7 @@ module _ (s scratch bars : List ℕ) where
         )
 
     by_order : fault x hb ≡ none → (o : Option (List ℕ)) → Found x hb so tests o → Result s scratch bars
-    by_order u none f = (told_kept (record { unbroken = u; no_order_lem = f })).0
+    by_order u none f = (told_kept (record { unbroken = u; no_order = f })).0
     by_order u (some o) f =
         record {
           answer = Consistent (settled_of (unsettled_pair x hb));
@@ -179,7 +179,7 @@ kept_means s scratch bars n scratch' bars' x hb w tests k =
     let l = kept_bars k.test k.execution k.hb in
     let so = sound k.execution (promise s k.execution d) in
     let y : KeptOf (OrderedBy x hb) (all_bars x hb) l =
-    moved e k.hb hb k.tests tests (λ z h. KeptOf (OrderedBy z h) (all_bars z h) l) (kept_of_lem k.execution k.hb so k.tests k.test k.tells k.broken.no_order_lem) in
+    moved e k.hb hb k.tests tests (λ z h. KeptOf (OrderedBy z h) (all_bars z h) l) (kept_of_lem k.execution k.hb so k.tests k.test k.tells k.broken.no_order) in
     let z = kept_nothing (ordered_fewer x hb) l y in
     let c = k.count in (
       moved e k.hb hb k.tests tests (λ z h. NoOrder z h) k.broken,
@@ -233,7 +233,7 @@ module _ (s scratch bars : List ℕ) (r : Explanation) (p' q' : List ℕ) (k : E
         ⊎_elim
         (λ u. inl (is (Broken n names) (cleared (needed j.execution) scratch) bars
         (record { execution = j.execution; describes = e; hb = j.hb; tests = j.tests; breaks = u; scratch_cleared = refl; bars_kept = refl })))
-        (λ u. inr (ap (λ (f : Fault). f.number) u.names, is_kept j.execution e j.hb j.tests (record { unbroken = u.unbroken; no_order_lem = u.no_order_lem })))
+        (λ u. inr (ap (λ (f : Fault). f.number) u.names, is_kept j.execution e j.hb j.tests (record { unbroken = u.unbroken; no_order = u.no_order })))
         j.breaks
     alike (JudgeConsistent t) j =
         let d = admitted_whole s (length scratch) (length order) j.execution j.describes in
@@ -288,7 +288,7 @@ module _ (s scratch order : List ℕ) (u : Unordered s (length scratch)) (long :
       (λ v. ap (λ (f : Fault). JudgeBroken f.number f.names) v.names) j.breaks
   said_26 (JudgeConsistent t) p q j =
       let e = same_whole u.describes (admitted_whole s (length scratch) (length order) j.execution j.describes).describes in
-      absurd (moved e u.hb j.hb u.tests j.tests (λ y h. (o : List ℕ) → Meets (problem y h) o → ⊥) u.broken.no_order_lem _ j.first.is)
+      absurd (moved e u.hb j.hb u.tests j.tests (λ y h. (o : List ℕ) → Meets (problem y h) o → ⊥) u.broken.no_order _ j.first.is)
 
 pub kept_exactly : KeptExactly
 kept_exactly s scratch order bars a p q r p' q' x w long j k = (
@@ -303,7 +303,7 @@ kept_exactly s scratch order bars a p q r p' q' x w long j k = (
         let d = admitted_whole s (length scratch) (length order) j.execution j.describes in
         let e = whole_scratched s (length scratch) j.execution d.describes d.scratch in
         ⊎_elim (λ f. let z = fault_low j.execution j.hb (faulty 26 Nobody) f in absurd (omega arith))
-        (λ u. is_kept s scratch bars r p' q' k j.execution e j.hb j.tests (record { unbroken = u.unbroken; no_order_lem = u.no_order_lem })) j.breaks
+        (λ u. is_kept s scratch bars r p' q' k j.execution e j.hb j.tests (record { unbroken = u.unbroken; no_order = u.no_order })) j.breaks
 
 -- ---- buffers
 
@@ -324,7 +324,7 @@ kept_few : (s scratch : List ℕ) (x : Execution) (d : scratched (length scratch
     → TellsNone test (OrderedBy x hb) (all_bars x hb) → length (kept_bars test x hb) ≤ 10648
 kept_few s scratch x d hb tests n test tells =
     let wf = promise s x (scratched_whole s (length scratch) x d).describes in
-    let y = kept_of_lem x hb (sound x wf) tests test tells n.no_order_lem in
+    let y = kept_of_lem x hb (sound x wf) tests test tells n.no_order in
     let a = sub_length (walk_sub y.walk) in
     let b = bars_few x hb in
     let c = cube (length x.events) (few_events x wf) in

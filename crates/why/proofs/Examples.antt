@@ -46,7 +46,7 @@ use Rattle.why.specs.declared.Explanation.TheVariants.{Refused, Broken, Consiste
 use Rattle.why.specs.Bars.{all_bars, OrderedBy}
 use Rattle.why.specs.Explained.{scratched, NoOrder, kept_bars, Explained}
 use Rattle.why.specs.Examples.{Example, examples, Right}
-use Rattle.why.proofs.BarsLaws.{lacks as lacksOrder, no_order, all_bars_lem, tells_none, some_order}
+use Rattle.why.proofs.BarsLaws.{lacks as lacksOrder, lacks_order, all_bars_lem, tells_none, some_order}
 use Rattle.why.proofs.ExplainedLaws.{scratched_whole}
 
 -- ---- the explanation, computed
@@ -65,11 +65,11 @@ listed places l = cond (ltb places (length l * 3)) (saying Small []) (saying (Ke
 -- by whether all bars leave an order
 unfoldable pub ordered : ℕ → Execution → (ℕ → ℕ → Bool) → Bool → Said
 ordered places x hb false = saying (Consistent (settled_of (unsettled_pair x hb))) []
-ordered places x hb true = listed places (kept_bars (no_order x hb) x hb)
+ordered places x hb true = listed places (kept_bars (lacks_order x hb) x hb)
 
 unfoldable pub judged : ℕ → Execution → (ℕ → ℕ → Bool) → Option Fault → Said
 judged places x hb (some f) = saying (Broken f.number f.names) []
-judged places x hb none = ordered places x hb (no_order x hb (all_bars x hb))
+judged places x hb none = ordered places x hb (lacks_order x hb (all_bars x hb))
 
 unfoldable pub say_of : ℕ → Parsed → Said
 say_of places (refused n p) = saying (Refused n p) []
@@ -88,12 +88,12 @@ module _ (s scratch bars : List ℕ) where
     so : Sound x
     so = sound x (promise s x (scratched_whole s (length scratch) x d).describes)
 
-    of_list : NoOrder x hb → Says (listed (length bars) (kept_bars (no_order x hb) x hb))
+    of_list : NoOrder x hb → Says (listed (length bars) (kept_bars (lacks_order x hb) x hb))
     unfolding listed
-    of_list n = go (ltb (length bars) (length (kept_bars (no_order x hb) x hb) * 3)) refl
+    of_list n = go (ltb (length bars) (length (kept_bars (lacks_order x hb) x hb) * 3)) refl
       where
-        go : (b : Bool) → ltb (length bars) (length (kept_bars (no_order x hb) x hb) * 3) ≡ b
-            → Says (cond b (saying Small []) (saying (Kept (length (kept_bars (no_order x hb) x hb))) (bytes_of (kept_bars (no_order x hb) x hb))))
+        go : (b : Bool) → ltb (length bars) (length (kept_bars (lacks_order x hb) x hb) * 3) ≡ b
+            → Says (cond b (saying Small []) (saying (Kept (length (kept_bars (lacks_order x hb) x hb))) (bytes_of (kept_bars (lacks_order x hb) x hb))))
         go true e = (
           cleared (needed x) scratch,
           record {
@@ -102,7 +102,7 @@ module _ (s scratch bars : List ℕ) where
             hb = hb;
             tests = tests;
             broken = n;
-            test = no_order x hb;
+            test = lacks_order x hb;
             tells = tells_none x hb so tests;
             over = ltb-true _ _ e;
             scratch_cleared = refl;
@@ -117,16 +117,16 @@ module _ (s scratch bars : List ℕ) where
             hb = hb;
             tests = tests;
             broken = n;
-            test = no_order x hb;
+            test = lacks_order x hb;
             tells = tells_none x hb so tests;
             count = refl;
             room = ltb-false _ _ e;
-            written = ap (λ (i : ℕ). bytes_of (kept_bars (no_order x hb) x hb) ++ drop i bars) (bytes_length (kept_bars (no_order x hb) x hb));
+            written = ap (λ (i : ℕ). bytes_of (kept_bars (lacks_order x hb) x hb) ++ drop i bars) (bytes_length (kept_bars (lacks_order x hb) x hb));
             scratch_cleared = refl;
           },
         )
 
-    of_order : fault x hb ≡ none → (b : Bool) → no_order x hb (all_bars x hb) ≡ b → Says (ordered (length bars) x hb b)
+    of_order : fault x hb ≡ none → (b : Bool) → lacks_order x hb (all_bars x hb) ≡ b → Says (ordered (length bars) x hb b)
     unfolding ordered
     of_order u false e =
         let w = some_order x hb so tests (all_bars x hb) (λ c i. i) e in (
@@ -144,13 +144,13 @@ module _ (s scratch bars : List ℕ) where
           },
         )
     of_order u true e =
-        of_list (record { unbroken = u; no_order_lem = λ o i. (tells_none x hb so tests (all_bars x hb) (λ c m. m)).0 (true_T _ e) (o, (all_bars_lem x hb so tests o).1 i) })
+        of_list (record { unbroken = u; no_order = λ o i. (tells_none x hb so tests (all_bars x hb) (λ c m. m)).0 (true_T _ e) (o, (all_bars_lem x hb so tests o).1 i) })
 
     of_fault : (f : Option Fault) → fault x hb ≡ f → Says (judged (length bars) x hb f)
     unfolding judged
     of_fault (some f) u =
         (cleared (needed x) scratch, record { execution = x; describes = d; hb = hb; tests = tests; breaks = u; scratch_cleared = refl; bars_kept = refl })
-    of_fault none u = of_order u (no_order x hb (all_bars x hb)) refl
+    of_fault none u = of_order u (lacks_order x hb (all_bars x hb)) refl
 
   of_parsed : (p : Parsed) → scratched (length scratch) (parse s) ≡ p → Says (say_of (length bars) p)
   unfolding say_of
@@ -165,7 +165,7 @@ module _ (s scratch bars : List ℕ) where
 
 -- with all that they compute with open: a new definition on the way joins this list, or `refl` fails in `computed`
 unfoldable pub told : Example → Explanation × List ℕ
-unfolding ◌and◌ ◌or◌ non any all number those keep find ◌else◌ mapped each across from reads writes marks initial unordered sc tear_free covers overlap equal both_sc divides unbroken tear_of lookup access_at shape_at reads_at writes_at saw wrote is_init reads_some is_marker meets event_no event inits others row_below pair_below value_at head_bytes event_bytes tear_by data_bytes seen_of written_of row_bytes within head_fits inside init_formed sized kind_fits other_formed formed tear_fits alone stands_first event_fits room_in joins row_rises row_fits parts pair_rises pair_fits place_of allowed head_fault event_fault_by row_fault pair_fault value_fault_by fault_by taken after is_row lacks lowest_lacking appears missing completed finish fields_from parse numbers at_row any_two agent_order row_syncs synchronises init_first step breaks21 breaks22 breaks23 breaks24 untorn untorn_from breaks25 fault21 fault22 fault23 fault24 fault25 fault bar_a bar_b bar_c row_bars clash unsettled unsettled_pair settled_of table look through warshall hb_table member without first_of gated unless_done free search order_in bar kept_of bytes_of scratched lacksOrder no_order listed ordered judged say_of
+unfolding ◌and◌ ◌or◌ non any all number those keep find ◌else◌ mapped each across from reads writes marks initial unordered sc tear_free covers overlap equal both_sc divides unbroken tear_of lookup access_at shape_at reads_at writes_at saw wrote is_init reads_some is_marker meets event_no event inits others row_below pair_below value_at head_bytes event_bytes tear_by data_bytes seen_of written_of row_bytes within head_fits inside init_formed sized kind_fits other_formed formed tear_fits alone stands_first event_fits room_in joins row_rises row_fits parts pair_rises pair_fits place_of allowed head_fault event_fault_by row_fault pair_fault value_fault_by fault_by taken after is_row lacks lowest_lacking appears missing completed finish fields_from parse numbers at_row any_two agent_order row_syncs synchronises init_first step breaks21 breaks22 breaks23 breaks24 untorn untorn_from breaks25 fault21 fault22 fault23 fault24 fault25 fault bar_a bar_b bar_c row_bars clash unsettled unsettled_pair settled_of table look through warshall hb_table member without first_of gated unless_done free search order_in bar kept_of bytes_of scratched lacksOrder lacks_order listed ordered judged say_of
 told e = let o = say e.sheet e.scratch e.bars in (o.answer, o.kept)
 
 abbrev pub stated : Example → Explanation × List ℕ

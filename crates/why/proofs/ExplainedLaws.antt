@@ -67,7 +67,7 @@ use Rattle.why.specs.declared.Explanation.TheVariants.{Refused, Broken, Consiste
 use Rattle.why.specs.steps.Told.{told_of}
 use Rattle.why.specs.Bars.{all_bars, OrderedBy}
 use Rattle.why.specs.Explained.{scratched, NoOrder, kept_bars, ExplainedRefused, ExplainedBroken, ExplainedConsistent, ExplainedKept, ExplainedSmall, Explained}
-use Rattle.why.proofs.BarsLaws.{no_order, bars_is, three, bars_rise, all_bars_lem, part_begins, tells_none, some_order}
+use Rattle.why.proofs.BarsLaws.{lacks_order, bars_is, three, bars_rise, all_bars_lem, part_begins, tells_none, some_order}
 
 -- ---- what is judged
 
@@ -119,7 +119,7 @@ module _ (x : Execution) (hb : ℕ → ℕ → Bool) (so : Sound x) (tests : Tes
   pub kept_of_lem : (test : List Triple → Bool) → TellsNone test (OrderedBy x hb) (all_bars x hb) → ((o : List ℕ) → Meets (problem x hb) o → ⊥)
       → KeptOf (OrderedBy x hb) (all_bars x hb) (kept_bars test x hb)
   kept_of_lem test tells n =
-      let k = kept_walk (no_order x hb) (tells_none x hb so tests) (some_order x hb so tests) (λ w. n w.0 ((all_bars_lem x hb so tests w.0).0 w.1)) in
+      let k = kept_walk (lacks_order x hb) (tells_none x hb so tests) (some_order x hb so tests) (λ w. n w.0 ((all_bars_lem x hb so tests w.0).0 w.1)) in
       subst (KeptOf (OrderedBy x hb) (all_bars x hb)) (kept_is test tells k) k
 
 -- ---- from the tables
@@ -252,14 +252,14 @@ module _ {s : List ℕ} {x : Counts} {at : List ℕ} (h : HandedWhole s x at) {t
       cleaned e = e ∙ ap (λ (i : ℕ). cleared (bytes_for i) scratch) room
 
       abbrev list_of : List Triple
-      list_of = kept_bars (no_order X before) X before
+      list_of = kept_bars (lacks_order X before) X before
 
       -- the list that was found is the one of the definition
       same_list : {list : List Triple} → KeptOf (Placeable x.events w.before x.inits) (table_bars x.events (bars_of t x.events w.after w.before q x.rows)) list
           → NoOrder X before × (list ≡ list_of)
       same_list y =
           let z = found_kept held so h.laid.inits y in
-          (record { unbroken = unbroken; no_order_lem = λ o i. z.broken (o, (all_bars_lem X before so held.tests o).1 i) }, kept_is (no_order X before) (tells_none X before so held.tests) z)
+          (record { unbroken = unbroken; no_order = λ o i. z.broken (o, (all_bars_lem X before so held.tests o).1 i) }, kept_is (lacks_order X before) (tells_none X before so held.tests) z)
 
       by_finding : (f : Finding) {scratch' : List ℕ} (bars' : List ℕ) → scratch' ≡ cleared (needed X) scratch
           → Finds (Placeable x.events w.before x.inits) (table_bars x.events (bars_of t x.events w.after w.before q x.rows)) bars f bars'
@@ -284,7 +284,7 @@ module _ {s : List ℕ} {x : Counts} {at : List ℕ} (h : HandedWhole s x at) {t
             hb = before;
             tests = held.tests;
             broken = z.0;
-            test = no_order X before;
+            test = lacks_order X before;
             tells = tells_none X before so held.tests;
             count = ap length (sym z.1) ∙ y.count;
             room = y.room;
@@ -299,7 +299,7 @@ module _ {s : List ℕ} {x : Counts} {at : List ℕ} (h : HandedWhole s x at) {t
             hb = before;
             tests = held.tests;
             broken = z.0;
-            test = no_order X before;
+            test = lacks_order X before;
             tells = tells_none X before so held.tests;
             over = subst (λ (l : List Triple). length bars < length l * 3) z.1 y.over;
             scratch_cleared = c;
@@ -336,7 +336,7 @@ module _ (s scratch bars : List ℕ) where
       (e : scratched (length scratch) (parse s) ≡ whole y) (i : Tests x f) (j : Tests y g) → NoOrder x f → TellsNone a (OrderedBy x f) (all_bars x f)
       → TellsNone b (OrderedBy y g) (all_bars y g) → kept_bars a x f ≡ kept_bars b y g
   list_same {x} {y} f g a b d e i j n t u =
-      kept_is b u (carry d e i j (λ z h. KeptOf (OrderedBy z h) (all_bars z h) (kept_bars a x f)) (kept_of_lem x f (sound_of d) i a t n.no_order_lem))
+      kept_is b u (carry d e i j (λ z h. KeptOf (OrderedBy z h) (all_bars z h) (kept_bars a x f)) (kept_of_lem x f (sound_of d) i a t n.no_order))
 
   module _ {p q p' q' : List ℕ} where
     broken_broken : (n : ℕ) (a : Names) (m : ℕ) (b : Names) → ExplainedBroken s scratch bars (faulty n a) p q → ExplainedBroken s scratch bars (faulty m b) p' q'
@@ -392,7 +392,7 @@ module _ (s scratch bars : List ℕ) where
   -- an order, and none
   order_none : {x y : Execution} (f g : ℕ → ℕ → Bool) → scratched (length scratch) (parse s) ≡ whole x → scratched (length scratch) (parse s) ≡ whole y
       → Tests x f → Tests y g → (o : List ℕ) × Meets (problem x f) o → NoOrder y g → ⊥
-  order_none f g d e i j o n = let w = carry d e i j (λ y h. (o : List ℕ) × Meets (problem y h) o) o in n.no_order_lem w.0 w.1
+  order_none f g d e i j o n = let w = carry d e i j (λ y h. (o : List ℕ) × Meets (problem y h) o) o in n.no_order w.0 w.1
 
   pub explained_unique : (a b : Explanation) (p q p' q' : List ℕ) → Explained s scratch bars a p q → Explained s scratch bars b p' q' → (a ≡ b) × (p ≡ p') × (q ≡ q')
   explained_unique (Refused n r) (Refused m t) p q p' q' j k = refused_refused n r m t j k

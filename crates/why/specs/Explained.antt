@@ -60,7 +60,7 @@ pub record ExplainedConsistent (s scratch bars : List ℕ) (settled : Settled) (
 -- 01: "26: no total order as below exists", tested after 21 to 25
 pub record NoOrder (x : Execution) (hb : ℕ → ℕ → Bool) : Type 0 where
   pub unbroken : fault x hb ≡ none
-  pub no_order_lem : (o : List ℕ) → Meets (problem x hb) o → ⊥
+  pub no_order : (o : List ℕ) → Meets (problem x hb) o → ⊥
 
 -- 02 §8: "Then go through them from the first: drop a bar if the remaining bars together with happens-before still leave no order, else keep it."
 abbrev pub kept_bars : (List Triple → Bool) → Execution → (ℕ → ℕ → Bool) → List Triple

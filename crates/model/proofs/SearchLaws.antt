@@ -50,18 +50,21 @@ module _ {A : Type 0} (f : A → Bool) where
       on true y (Memᴰ.tail k) ih = let w = ih k in (Memᴰ.tail w.0, w.1)
       on false y k ih = let w = ih k in (Memᴰ.tail w.0, w.1)
 
-  pub kept_intro : (l : List A) (a : A) → Memᴰ a l → T (f a) → Memᴰ a (kept f l)
+  kept_intro_of : (a : A) (l : List A) → Memᴰ a l → T (f a) → Memᴰ a (kept f l)
   unfolding kept put
-  kept_intro l a (Memᴰ.head {x = c} {xs = k} q) t = on (f c) (subst (λ (d : A). T (f d)) q t)
+  kept_intro_of a l (Memᴰ.head {x = c} {xs = k} q) t = on (f c) (subst (λ (d : A). T (f d)) q t)
     where
       on : (b : Bool) → T b → Memᴰ a (put b c (kept f k))
       on true s = Memᴰ.head q
       on false s = absurd s
-  kept_intro l a (Memᴰ.tail {x = c} {xs = k} m) t = on (f c) (kept_intro k a m t)
+  kept_intro_of a l (Memᴰ.tail {x = c} {xs = k} m) t = on (f c) (kept_intro_of a k m t)
     where
       on : (b : Bool) → Memᴰ a (kept f k) → Memᴰ a (put b c (kept f k))
       on true ih = Memᴰ.tail ih
       on false ih = ih
+
+  pub kept_intro : (l : List A) (a : A) → Memᴰ a l → T (f a) → Memᴰ a (kept f l)
+  kept_intro l a m t = kept_intro_of a l m t
 
   kept_length : (l : List A) → length (kept f l) ≤ length l
   unfolding kept put
@@ -72,18 +75,21 @@ module _ {A : Type 0} (f : A → Bool) where
       on true ih = omega arith
       on false ih = omega arith
 
-  kept_shorter : (l : List A) (a : A) → Memᴰ a l → (T (f a) → ⊥) → length (kept f l) < length l
+  kept_shorter_of : (a : A) (l : List A) → Memᴰ a l → (T (f a) → ⊥) → length (kept f l) < length l
   unfolding kept put
-  kept_shorter l a (Memᴰ.head {x = c} {xs = k} q) h = on (f c) (λ t. h (subst (λ (d : A). T (f d)) (sym q) t)) (kept_length k)
+  kept_shorter_of a l (Memᴰ.head {x = c} {xs = k} q) h = on (f c) (λ t. h (subst (λ (d : A). T (f d)) (sym q) t)) (kept_length k)
     where
       on : (b : Bool) → (T b → ⊥) → length (kept f k) ≤ length k → length (put b c (kept f k)) < length (c ∷ k)
       on true n ih = absurd (n tt)
       on false n ih = omega arith
-  kept_shorter l a (Memᴰ.tail {x = c} {xs = k} m) h = on (f c) (kept_shorter k a m h)
+  kept_shorter_of a l (Memᴰ.tail {x = c} {xs = k} m) h = on (f c) (kept_shorter_of a k m h)
     where
       on : (b : Bool) → length (kept f k) < length k → length (put b c (kept f k)) < length (c ∷ k)
       on true ih = omega arith
       on false ih = omega arith
+
+  kept_shorter : (l : List A) (a : A) → Memᴰ a l → (T (f a) → ⊥) → length (kept f l) < length l
+  kept_shorter l a m h = kept_shorter_of a l m h
 
 abbrev Rising : List ℕ → Type 0
 Rising [] = Unit {0}

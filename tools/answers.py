@@ -101,6 +101,13 @@ def flat(names, place, text, said, label):
                     n += 1
                 if given and n < len(rest) and rest[n] == "0" and n - 2 < len(given):
                     rest = rest[:2] + [given[n - 2]] + rest[n + 1:]
+            # what was known of a matched value is the equation of the arm that it stands in
+            if rest[1:3] == ["given", "1"]:
+                arm = names.places[chain[i]][0]
+                while arm is not None and not names.places[arm][1][1].startswith("in"):
+                    arm = names.places[arm][0]
+                if arm is not None:
+                    return "c." + ".".join([names.places[arm][1][1], "is"] + rest[3:])
             return "c." + ".".join([names.places[chain[i]][1][1]] + rest[1:])
         # a loop's own step stands under its test's
         for old, new in names.loop_names:

@@ -1,0 +1,11 @@
+-- `reader_runs::all` is safe and ends: at most a million sheets. Rests on the reads and writes of std.
+use Prim.Native.Nat.{◌-◌, ◌≤◌}
+use mathlib.Core.Path.{◌≡◌}
+use lib.ListN.{length}
+use Rattle.reader_runs.proofs.all.Given as goal
+
+abbrev pub invariant-loop : goal.invariant-loop
+invariant-loop l = (4097 ≤ length l.space) × (length l.space ≡ length l.initial.space) × (l.counter ≤ 1000000)
+
+abbrev pub decreases-loop : goal.decreases-loop
+decreases-loop l = 1000000 - l.counter

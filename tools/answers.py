@@ -91,12 +91,6 @@ def flat(names, place, text, said, label):
             fits = [i for i, w in enumerate(chain) if alike(names.places[w][1][0]) == alike(f)[:-4]]
         if not fits:  # a number that kept it apart from another field
             fits = [i for i, w in enumerate(chain) if alike(names.places[w][1][0]) == re.sub("[0-9]+$", "", alike(f))]
-        if not fits and f.endswith("_lem"):
-            fits = [i for i, w in enumerate(chain) if alike(names.places[w][1][0]) == alike(f[:-4])]
-        if not fits:  # a number that kept it apart from another field
-            fits = [i for i, w in enumerate(chain) if alike(names.places[w][1][0]) == re.sub("[0-9]+$", "", alike(f))]
-        if not fits and alike(f).endswith("_lem"):
-            fits = [i for i, w in enumerate(chain) if alike(names.places[w][1][0]) == alike(f)[:-4]]
         if fits:
             i = min(fits, key=lambda i: abs(i - k))
             # what a `&mut` argument holds after a call, by the parameter's name

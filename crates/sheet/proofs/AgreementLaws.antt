@@ -59,7 +59,7 @@ module _ (s : List ℕ) (x y : Counts) (at bt : List ℕ) (l : Laid s x at) (m :
       let n = events_same in
       let r = rows_same in
       counts_path (ap {B = Head} (λ (z : Execution). z.head) e) (l.inits ∙ ap {B = ℕ} (λ (z : Execution). inits z.events) e ∙ sym m.inits) n
-      (l.rows_at_lem ∙ ap (λ (k : ℕ). field_place s (suc k)) n ∙ sym m.rows_at_lem) r
+      (l.rows_at ∙ ap (λ (k : ℕ). field_place s (suc k)) n ∙ sym m.rows_at) r
       (l.pairs_at_lem ∙ (let q : x.events + x.rows ≡ y.events + y.rows = omega arith in ap (λ (k : ℕ). field_place s (suc k)) q) ∙ sym m.pairs_at_lem) pairs_same
 
   -- a place that no event uses

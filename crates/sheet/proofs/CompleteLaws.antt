@@ -22,7 +22,6 @@ use Rattle.faults.specs.Faults.{view, Counted}
 use Rattle.sets.specs.Mask.{slots}
 use Rattle.tables.specs.Tables.{row_room}
 use Rattle.lay.specs.Lay.{events_put, rows_put}
-use Rattle.sheet.specs.declared.Scan.{Scan}
 use Rattle.sheet.specs.declared.Read.{Read}
 use Rattle.sheet.specs.Handed.{Laid, HandedWhole}
 use Rattle.sheet.specs.Filled.{Filled, FilledWhole}
@@ -37,7 +36,7 @@ laid_of s last x at t d =
     let f = b.few_inits in
     let o = b.few_others in
     let l : 0 < last = above last d in
-    record { size = b.size; few = omega arith; inits = b.inits; places = b.places; unused = b.unused; rows_at = b.rows_at l; pairs_at_lem = b.pairs_at_lem l }
+    record { size = b.size; few = omega arith; inits = b.inits; places = b.places; unused = b.unused; rows_at = b.rows_at_lem l; pairs_at_lem = b.pairs_at_lem l }
   where
     above : (n : ℕ) → (n ≡ 0 → ⊥) → 0 < n
     above n h = omega arith

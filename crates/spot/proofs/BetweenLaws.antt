@@ -135,7 +135,7 @@ module _ (s : List ℕ) (p last : ℕ) (x : Counts) (at : List ℕ) (r : Ready s
               start = λ t. absurd (omega arith);
               here = λ _. f;
               places = λ i l. absurd (omega arith);
-              rows_at = λ _. f;
+              rows_at_lem = λ _. f;
               pairs_at_lem = λ _. f;
             };
         seen = simp e (state_path 1 (head_of (edition_of (value_at s p)) (value_at s p)) (take_none x.events at n) (events_none s _ x.events at n) (rows_none s _ _ x.rows o) (pairs_none s _ x.pairs q));
@@ -204,7 +204,7 @@ module _ (s : List ℕ) (p last : ℕ) (x : Counts) (at : List ℕ) (r : Ready s
                   (λ q. ap (λ (m : ℕ). get_or (set at x.events p) m 0) q ∙ get_or-set_same at x.events p 0 l ∙ here ∙ ap (λ (m : ℕ). field_place s (suc m)) (sym q))
                   (λ q. get_or-set_other at x.events i p 0 (λ t. omega arith) ∙ b.places i q)
                   (split i x.events j);
-              rows_at = λ _. place_next s p (suc x.events) _ here (omega arith);
+              rows_at_lem = λ _. place_next s p (suc x.events) _ here (omega arith);
               pairs_at_lem = λ _. place_next s p (suc x.events) _ here (omega arith);
             };
         seen = simp e (state_path 2 x.head (places_more at x.events p l) more (rows_none s _ _ x.rows o) (pairs_none s _ x.pairs q));
@@ -245,7 +245,7 @@ module _ (s : List ℕ) (p last : ℕ) (x : Counts) (at : List ℕ) (r : Ready s
               start = λ t. absurd (omega arith);
               here = λ _. place_next s p (suc (x.events + x.rows + x.pairs)) _ here (omega arith);
               places = b.places;
-              rows_at = λ _. b.rows_at (omega arith);
+              rows_at_lem = λ _. b.rows_at_lem (omega arith);
               pairs_at_lem = λ _. place_next s p (suc (x.events + x.rows + x.pairs)) _ here (omega arith);
             };
         seen = simp e (state_path 3 x.head refl refl (spaced_more (row_at s x.head.edition) (row_gap x.head.edition) x.rows_at x.rows p o ∙ ap (λ (q : Row). rows_on s x.head.edition x.rows_at x.rows ++ (q ∷ [])) (sym (value_row s p st r.clean e))) (pairs_none s _ x.pairs q));
@@ -274,7 +274,7 @@ module _ (s : List ℕ) (p last : ℕ) (x : Counts) (at : List ℕ) (r : Ready s
               start = λ t. absurd (omega arith);
               here = λ _. place_next s p (suc (x.events + x.rows + x.pairs)) _ here (omega arith);
               places = b.places;
-              rows_at = λ _. b.rows_at (omega arith);
+              rows_at_lem = λ _. b.rows_at_lem (omega arith);
               pairs_at_lem = λ _. b.pairs_at_lem (omega arith);
             };
         seen = simp e (state_path 4 x.head refl refl refl (spaced_more (pair_at s) pair_gap x.pairs_at x.pairs p o ∙ ap (λ (q : Pair). pairs_on s x.pairs_at x.pairs ++ (q ∷ [])) (sym (value_pair s p st r.clean e))));
@@ -299,7 +299,7 @@ between_start s =
       start = λ _. refl;
       here = λ t. absurd (omega arith);
       places = λ i l. absurd (omega arith);
-      rows_at = λ t. absurd (omega arith);
+      rows_at_lem = λ t. absurd (omega arith);
       pairs_at_lem = λ t. absurd (omega arith);
     }
 

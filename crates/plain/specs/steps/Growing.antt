@@ -26,7 +26,7 @@ use Rattle.tables.specs.Tables.{row_room}
 use Rattle.row_data.specs.RowData.{row_put}
 use Rattle.lay.specs.Lay.{event_put}
 use Rattle.plain.specs.Fields.{init_next, other_next, row_next}
-use Rattle.spot.specs.Between.{blank_counts, Turn, tally_with, Tallied, Stands, Carried, Shaped, behind, with_rows}
+use Rattle.spot.specs.Between.{Turn, tally_with, Tallied, Stands, Carried, Shaped, behind, with_rows}
 
 -- while no row is read
 pub record Grown (s : List ℕ) (from : Spot) (at t : List ℕ) (to : Spot) (at' t' : List ℕ) : Type 0 where

@@ -69,11 +69,11 @@ pub computed : each told examples ≡ each (λ (e : Example). e.reply) examples
 unfolding each examples told
 computed = refl
 
-each_right : (l : List Example) → each told l ≡ each (λ (e : Example). e.reply) l → (e : Example) → Memᴰ e l → Checked e.sheet e.list e.reply
+each_right : (e : Example) (l : List Example) → each told l ≡ each (λ (e : Example). e.reply) l → Memᴰ e l → Checked e.sheet e.list e.reply
 unfolding each told
-each_right l t e (Memᴰ.head {x = f} q) =
+each_right e l t (Memᴰ.head {x = f} q) =
     subst (λ (d : Example). Checked d.sheet d.list d.reply) (sym q) (subst (Checked f.sheet f.list) (head-eq_of_cons-eq t) (replied f.sheet f.list))
-each_right l t e (Memᴰ.tail {xs = k} m) = each_right k (tail-eq_of_cons-eq t) e m
+each_right e l t (Memᴰ.tail {xs = k} m) = each_right e k (tail-eq_of_cons-eq t) m
 
 pub right : Right
-right = each_right examples computed
+right e = each_right e examples computed

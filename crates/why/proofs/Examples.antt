@@ -182,10 +182,10 @@ one_right e t scratch bars r p =
     subst (λ (o : Explanation × List ℕ). (scratch' : List ℕ) × Explained e.sheet scratch bars o.0 scratch' (o.1 ++ drop (length o.1) bars)) t
     (subst (λ (j : ℕ). Says e.sheet scratch bars (say e.sheet e.scratch j)) p (subst (λ (i : ℕ). Says e.sheet scratch bars (say e.sheet i (length bars))) r (said e.sheet scratch bars)))
 
-each_right : (l : List Example) → each told l ≡ each stated l → (e : Example) → Memᴰ e l → told e ≡ stated e
+each_right : (e : Example) (l : List Example) → each told l ≡ each stated l → Memᴰ e l → told e ≡ stated e
 unfolding each
-each_right l t e (Memᴰ.head {x = f} q) = subst (λ (d : Example). told d ≡ stated d) (sym q) (head-eq_of_cons-eq t)
-each_right l t e (Memᴰ.tail {xs = k} m) = each_right k (tail-eq_of_cons-eq t) e m
+each_right e l t (Memᴰ.head {x = f} q) = subst (λ (d : Example). told d ≡ stated d) (sym q) (head-eq_of_cons-eq t)
+each_right e l t (Memᴰ.tail {xs = k} m) = each_right e k (tail-eq_of_cons-eq t) m
 
 pub right : Right
-right e m = one_right e (each_right examples computed e m)
+right e m = one_right e (each_right e examples computed m)

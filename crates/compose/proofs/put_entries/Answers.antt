@@ -1,6 +1,6 @@
 -- `compose::put_entries` meets its contract. The invariant is the contract at the place reached: the first i entries are put. The measure is what is left. Assumes nothing.
 use mathlib.Core.List.{List}
-use Prim.Native.Nat.{ℕ, ◌-◌}
+use Prim.Native.Nat.{ℕ}
 use native.Mathlib.Omega.{arith}
 use lib.ListN.{length}
 use Rattle.encode.specs.Lent.{part}

@@ -1,5 +1,4 @@
 -- `compose::put_events` meets its contract. The invariant is the contract at the place reached: the first i events are put, and the data of the next begins at `first`, or there is none left. The measure is what is left. Assumes nothing.
-use Prim.Native.Nat.{◌-◌}
 use native.Mathlib.Omega.{arith}
 use Rattle.encode.specs.Encode.{event_value}
 use Rattle.encode.specs.Lent.{description_no}

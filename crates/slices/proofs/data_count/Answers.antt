@@ -1,6 +1,6 @@
 -- `slices::data_count` meets its contract. The invariant: the sum is that of the first e events. The measure is what is left. Assumes nothing.
 use mathlib.Core.Path.{◌≡◌, sym, ap, ◌∙◌}
-use Prim.Native.Nat.{◌-◌, ◌≤◌}
+use Prim.Native.Nat.{◌≤◌}
 use native.Mathlib.Omega.{arith}
 use lib.ListN.{get_or}
 use Rattle.format.specs.Layout.{data_bytes}

@@ -1,6 +1,5 @@
 -- `slices::put_data` meets its contract. The invariant: the data of the first e events is put. The measure is what is left. Assumes nothing.
 use mathlib.Core.Path.{◌≡◌, ◌∙◌}
-use Prim.Native.Nat.{◌-◌}
 use native.Mathlib.Omega.{arith}
 use Rattle.puts.proofs.PutLaws.{puts_none, puts_then}
 use Rattle.slices.specs.Sliced.{data_bytes_at}

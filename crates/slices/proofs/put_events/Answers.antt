@@ -1,6 +1,5 @@
 -- `slices::put_events` meets its contract. The invariant: the eight bytes of the first e events are put. The measure is what is left. Assumes nothing.
 use mathlib.Core.Path.{◌≡◌, ◌∙◌}
-use Prim.Native.Nat.{◌-◌}
 use native.Mathlib.Omega.{arith}
 use Rattle.puts.proofs.PutLaws.{puts_none, puts_then}
 use Rattle.slices.specs.Sliced.{eight_at}

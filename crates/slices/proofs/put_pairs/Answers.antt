@@ -1,6 +1,5 @@
 -- `slices::put_pairs` meets its contract. The invariant: the first j pairs are put. The measure is what is left. Assumes nothing.
 use mathlib.Core.Path.{◌≡◌}
-use Prim.Native.Nat.{◌-◌}
 use native.Mathlib.Omega.{arith}
 use Rattle.puts.proofs.PutLaws.{puts_none, puts_then}
 use Rattle.slices.proofs.SlicedLaws.{pairs_none, pairs_more}

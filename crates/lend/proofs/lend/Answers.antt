@@ -1,0 +1,10 @@
+-- `lend::lend` meets its contract: the reader's refusal, or what is lent of a whole sheet. Assumes nothing.
+use Rattle.encode.specs.Lend.{five}
+use Rattle.lend.proofs.LendingLaws.{lending_refused}
+use Rattle.lend.proofs.lend.Goals as goal
+
+pub lend_whole-requires : goal.lend_whole-requires
+lend_whole-requires c = rw c.in-Whole.is at c.read-o.ensures
+
+pub returns-in-Refused : goal.returns-in-Refused
+returns-in-Refused c = lending_refused (five c.args.head.now c.args.events.now c.args.bytes.now c.args.rows.now c.args.pairs.now) (rw c.in-Refused.is at c.read-o.ensures).says

@@ -1,5 +1,5 @@
 -- A place for each number of an agent, 1 where it has an event.
---     agent-numbers                  how many numbers an agent can have: those of a byte
+--     agent_numbers                  how many numbers an agent can have: those of a byte
 --     Present events seen      1 stands just at the agents that have one of the events
 -- Assumes nothing.
 use Rattle.std.specs.Prelude.{◌≡◌, List, ℕ, ◌<◌, eqb, length, get_or}

@@ -1,4 +1,4 @@
--- `log_order::ordered` meets its contract: happens_before first, then the rows. Assumes nothing.
+-- `log_order::ordered` meets its contract: happens-before first, then the rows. Assumes nothing.
 use mathlib.Core.Path.{refl}
 use Prim.Native.Nat.{min}
 use Rattle.tables.specs.Tables.{row_room}

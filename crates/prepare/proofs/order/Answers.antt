@@ -1,4 +1,4 @@
--- `prepare::order` meets its contract: the pairs, then happens_before. Assumes nothing.
+-- `prepare::order` meets its contract: the pairs, then happens-before. Assumes nothing.
 use Rattle.prepare.proofs.order.Goals as goal
 
 pub returns : goal.returns

@@ -1,4 +1,4 @@
--- `prepare::ready` meets its contract: 21 by itself, then by happens_before one pass that mostly finds nothing, or the rules one after another.
+-- `prepare::ready` meets its contract: 21 by itself, then by happens-before one pass that mostly finds nothing, or the rules one after another.
 -- Assumes nothing.
 use mathlib.Core.Path.{refl}
 use Rattle.prepare.proofs.PreparedLaws.{readied_bytes, readied_clean, readied_rest}

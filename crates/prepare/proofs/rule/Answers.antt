@@ -1,4 +1,4 @@
--- `prepare::rule` meets its contract: 21 by itself, then the other rules by happens_before. Assumes nothing.
+-- `prepare::rule` meets its contract: 21 by itself, then the other rules by happens-before. Assumes nothing.
 use mathlib.Core.Path.{refl}
 use Rattle.prepare.proofs.PreparedLaws.{ruled_bytes, ruled_rest}
 use Rattle.prepare.proofs.rule.Goals as goal

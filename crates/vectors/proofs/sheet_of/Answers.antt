@@ -1,0 +1,7 @@
+-- `vectors::sheet_of` is safe: the part has the length asked for. Rests on the reads and writes of `io`.
+use mathlib.Core.Path.{sym}
+use lib.Seq.{length-take-le}
+use Rattle.vectors.proofs.sheet_of.Goals as goal
+
+pub slice_bounds-part-end-2 : goal.slice_bounds-part-end-2
+slice_bounds-part-end-2 c = sym (length-take-le _ _ c.requires)

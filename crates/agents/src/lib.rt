@@ -8,7 +8,7 @@ ghost use Rattle.agents.specs.steps.Present.{Present, agent_numbers};
 
 use entries::Counts;
 
-// How many agent-numbers an agent can have: those of a byte.
+// How many agent_numbers an agent can have: those of a byte.
 const AGENT_NUMBERS: usize = 256;
 
 // 1 at the number of each agent that has an event; a place for each number, all of them 0 at the start.

@@ -1,4 +1,4 @@
--- `vectors::all` is safe and ends: at most a million sheets. Rests on the reads and writes of `io`.
+-- `vectors::all` is safe and ends: at most a million sheets. Rests on the reads and writes of std.
 use Prim.Native.Nat.{◌-◌, ◌≤◌, ◌<◌}
 use mathlib.Core.Path.{◌≡◌}
 use lib.ListN.{length}

@@ -1,4 +1,4 @@
--- `vectors::passed` is safe and ends: at most n reads of a byte. Rests on the reads of `io`.
+-- `vectors::passed` is safe and ends: at most n reads of a byte. Rests on the reads of std.
 use Prim.Native.Nat.{◌-◌}
 use mathlib.Core.Path.{◌≡◌}
 use lib.ListN.{length}

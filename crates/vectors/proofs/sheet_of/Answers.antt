@@ -1,4 +1,4 @@
--- `vectors::sheet_of` is safe: the part has the length asked for. Rests on the reads and writes of `io`.
+-- `vectors::sheet_of` is safe: the part has the length asked for. Rests on the reads and writes of std.
 use mathlib.Core.Path.{sym}
 use lib.Seq.{length-take-le}
 use Rattle.vectors.proofs.sheet_of.Goals as goal

@@ -1,4 +1,4 @@
--- `verdict::answer` prints the sheet's line: the buffers are enough, so what `tell` wrote is that. Rests on the writes of `libc`.
+-- `verdict::answer` prints the sheet's line: the buffers are enough, so what `tell` wrote is that. Rests on the writes of std.
 use Rattle.tell.proofs.Demands.{prints_the_order}
 use Rattle.verdict.proofs.answer.Goals as goal
 

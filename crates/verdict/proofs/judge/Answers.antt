@@ -1,4 +1,4 @@
--- `verdict::judge` lends buffers that are enough for every sheet. Rests on the writes of `libc`.
+-- `verdict::judge` lends buffers that are enough for every sheet. Rests on the writes of std.
 use mathlib.Core.Path.{refl}
 use native.Mathlib.Omega.{arith}
 use Rattle.verdict.proofs.judge.Goals as goal

@@ -1,4 +1,4 @@
--- `verdict::run` is safe: what was read stands within the buffer. Rests on the reads and writes of `libc`.
+-- `verdict::run` is safe: what was read stands within the buffer. Rests on the reads and writes of std.
 use Rattle.verdict.proofs.run.Goals as goal
 
 pub slice_bounds-judge-end : goal.slice_bounds-judge-end

@@ -12,7 +12,7 @@ for folder, dirs, files in os.walk("crates"):
                 t = g.read()
             mark = "//" if f.endswith(".rt") else "--"
             new = "\n".join(
-                re.sub(r"\b(happens_before|well_formed|agent_numbers)\b", lambda m: m.group(0).replace("_", "-"), line)
+                re.sub(r"\b(happens_before|well_formed)\b", lambda m: m.group(0).replace("_", "-"), line)
                 if line.lstrip().startswith(mark)
                 else line
                 for line in t.split("\n")

@@ -209,4 +209,6 @@ fn constants() {
         assert!(!python.contains(&own) || python.contains(&format!("{own}{value}\n")), "{name} in Python");
     }
     assert_eq!(python.matches("\nMAX_").count(), 3, "a constant that is not compared");
+    assert!(python.contains("\nBARS_BYTES = 3 * MAX_EVENTS**3\n"));
+    assert_eq!(plimdrong::MAX_BARS, 3 * plimdrong::MAX_EVENTS.pow(3));
 }

@@ -19,6 +19,7 @@ use Rattle.basis.specs.Test.{◌and◌}
 use Rattle.basis.proofs.BoolLaws.{and_holds, and_both, cond_and, by_bool, bool_ext, not_both_ways, not_both, eqb_self}
 use Rattle.sets.specs.Mask.{slots, mem, Has, insert, remove, Lowest}
 use Rattle.sets.proofs.MaskLaws.{mem_empty, mem_lt, mem_remove, remove_old, remove_cases, remove_lt, insert_cases, insert_old, insert_new, ext_all}
+use Rattle.sets.specs.Members.{Taken}
 use Rattle.cells.specs.Walk.{up_to, only_of, over, taking, picked}
 
 module _ {A : Type 0} where
@@ -179,3 +180,7 @@ over_picked n m f few inside whole =
         let a = and_both (ltb d n) (f d) h in
         let l = ltb-true d n a.0 in
         and_holds (ltb d slots) _ (lt-ltb d slots (omega arith)) ∙ and_holds (mem m d) (f d) (whole d l a.1) ∙ a.1
+
+-- a turn of a `for` over the members of a set
+pub stand_taken : {A : Type 0} {m : ℕ} {f : ℕ → A → A} {b₀ : A} {left : ℕ} {b : A} → Stand m f b₀ left b → (v t : ℕ) → Taken left v t → Stand m f b₀ t (f v b)
+stand_taken {m = m} {f = f} {b₀ = b₀} {b = b} s v t k = subst (λ (x : ℕ). Stand m f b₀ x (f v b)) (sym k.rest) (stand_next s v k.low k.some)

@@ -36,10 +36,7 @@ pub fn gain(masks: &mut [u32], i: usize, e: usize)
 pub fn spread(masks: &mut [u32], m: u32, w: usize, e: usize)
     ensures { masks.new ≡ spread masks.old m (w % slots) (e % slots) }
 {
-    let mut left = m;
-    while left != 0 {
-        let v = sets::lowest(left);
+    for v in sets::members(m) {
         gain(masks, v * SLOTS + w % SLOTS, e);
-        left = sets::without(left, v);
     }
 }

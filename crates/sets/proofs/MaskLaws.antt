@@ -26,6 +26,7 @@ use lib.Pow.{pow_pos, pow_mono, pow-lt, shr-shr, shr_lt, ones_lt, split}
 use lib.Bits.{bit_and, bit_or, and_shr, or_shr, and_mod, or_mod, or_disjoint, or_lt, and_le_l, and_mask}
 use lib.Count.{count_trailing_zeros, under}
 use Rattle.basis.proofs.BoolLaws.{bool_ext, by_bool, not_both_ways, false_of, eqb_self, bar_cases, bar_left, bar_right, and_parts, and_not_left, not_both}
+use Rattle.sets.specs.Members.{Taken}
 use Rattle.sets.specs.Mask.{slots, mem, Has, Within, pick, insert, remove, full, above, Lowest}
 
 -- ---- the lowest place, and the others
@@ -399,3 +400,13 @@ lowest_unique (suc s) p q a b = go (dec_lt p q) (dec_lt q p)
     go (yes l) r = absurd (not_both_ways (a.member (omega arith)) (b.least p l))
     go (no f) (yes l) = absurd (not_both_ways (b.member (omega arith)) (a.least q l))
     go (no f) (no g) = omega arith
+
+-- what is taken first of a set, and what is left
+pub taken : (s e t : ℕ) → s < 2 ^ slots → (s ≡ 0 → ⊥) → Lowest s e → t ≡ remove s (e % slots) → Taken s e t
+taken s e t w some low h =
+    let m = low.member (omega (arith, some)) in
+    let l = mem_lt slots s e w m in
+    record { some = some; low = low; member = m; slot = l; rest = h ∙ at_slot (remove s) e l }
+
+pub taken_less : {s e t : ℕ} → Taken s e t → t < s
+taken_less {s = s} {e = e} {t = t} k = let l = remove_lt s e k.member in let h = k.rest in omega arith

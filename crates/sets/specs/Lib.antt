@@ -1,3 +1,4 @@
 pub mod Tells
 pub mod Mask
 pub mod Count
+pub mod Members

@@ -2,7 +2,9 @@
 #![tactic(auto)]
 
 ghost use Rattle.std.specs.Prelude.{◌≡◌, cond, ◌%◌, min};
+ghost use Rattle.std.specs.Iterator.{at_most};
 ghost use Rattle.sets.specs.Tells.{Tells};
+ghost use Rattle.sets.specs.Members.{NextMember};
 ghost use Rattle.sets.specs.Mask.{slots, mem, Within, insert, remove, full, above, Lowest, Rest};
 
 // How many events a mask can hold: its bits.
@@ -40,14 +42,14 @@ pub fn subset(a: u32, b: u32) -> bool
 pub fn lowest(s: u32) -> usize
     ensures { Lowest s result }
 {
-    u32::trailing_zeros(s) as usize
+    s.trailing_zeros() as usize
 }
 
 // The set of all numbers below n; of all slots where n is larger.
 pub fn full(n: usize) -> u32
     ensures { result ≡ full (min n slots) }
 {
-    if n < SLOTS { (1 << n) - 1 } else { 4294967295 }
+    if n < SLOTS { (1 << n) - 1 } else { u32::MAX }
 }
 
 // The members from k up, each k lower.
@@ -75,5 +77,35 @@ pub fn only(test: bool, m: u32) -> u32
 pub fn least(a: usize, b: usize) -> usize
     ensures { result ≡ min a b }
 {
-    if a < b { a } else { b }
+    a.min(b)
+}
+
+// What is left of a set whose members are taken one by one, from the least up.
+#[derive(Drop)]
+pub struct Ascending {
+    left: u32,
+}
+
+impl Iterator for Ascending {
+    type Item = usize;
+
+    ghost next_gives = { λ s r t. NextMember s.left r t.left };
+
+    ghost remaining = { λ s. at_most s.left };
+
+    fn next(&mut self) -> Option<usize> {
+        if self.left == 0 {
+            return None;
+        }
+        let e = lowest(self.left);
+        self.left = without(self.left, e);
+        Some(e)
+    }
+}
+
+// The members of a set, for a loop.
+pub fn members(s: u32) -> Ascending
+    ensures { result.left ≡ s }
+{
+    Ascending { left: s }
 }

@@ -8,8 +8,7 @@ use mathlib.Core.Path.{◌≡◌, refl, sym, ap, ◌∙◌}
 use Prim.Native.Nat.{ℕ, ◌*◌, ◌+◌, ◌^◌, ◌<◌}
 use native.Mathlib.Omega.{arith}
 use borrow.Author.Tests.{ne_eqb}
-use Rattle.answer.specs.declared.Name.{Name}
-use Rattle.answer.specs.declared.Name.TheVariants.{Number, None}
+use Rattle.std.proofs.Common.{Option, Some, None}
 use Rattle.answer.specs.declared.Four.{Four}
 use Rattle.answer.specs.declared.Names.{Names}
 use Rattle.answer.specs.declared.Names.TheVariants.{Row, Event, Between, Torn, Nobody}
@@ -40,9 +39,9 @@ pair_in_lem (Unsettled e d) = refl
 
 -- ---- names
 
-name_back : (n : Name) → Below 255 n → name_of (byte_of n) ≡ n
+name_back : (n : Option ℕ) → Below 255 n → name_of (byte_of n) ≡ n
 unfolding name_of
-name_back (Number k) h = rw (ne_eqb k 255 (λ e. omega arith)) refl
+name_back (Some k) h = rw (ne_eqb k 255 (λ e. omega arith)) refl
 name_back None h = refl
 
 -- the bytes of a word, by numbers alone

@@ -7,8 +7,7 @@
 use mathlib.Core.Path.{◌≡◌}
 use Prim.Native.Nat.{ℕ, ◌^◌, ◌/◌, ◌%◌, ◌<◌}
 use native.Mathlib.Omega.{arith}
-use Rattle.answer.specs.declared.Name.{Name}
-use Rattle.answer.specs.declared.Name.TheVariants.{Number, None}
+use Rattle.std.proofs.Common.{Option, Some, None}
 use Rattle.answer.specs.declared.Four.{Four}
 use Rattle.answer.specs.declared.Settled.{Settled}
 use Rattle.answer.specs.declared.Settled.TheVariants.{Orderly, Unsettled}
@@ -22,12 +21,12 @@ use Rattle.answer.specs.Fit.{Below, FourBelow, Fits}
 
 -- ---- names
 
-pub byte_below : (n : Name) → Below 256 n → byte_of n < 256
-byte_below (Number k) h = h
+pub byte_below : (n : Option ℕ) → Below 256 n → byte_of n < 256
+byte_below (Some k) h = h
 byte_below None h = omega arith
 
-below_more : (n : Name) → Below 255 n → Below 256 n
-below_more (Number k) h = omega arith
+below_more : (n : Option ℕ) → Below 255 n → Below 256 n
+below_more (Some k) h = omega arith
 below_more None h = h
 
 -- ---- four names
@@ -40,7 +39,7 @@ pub four_more : (f : Four) → FourBelow 255 f → FourBelow 256 f
 four_more f h =
     record { first = below_more f.0 h.first; second = below_more f.1 h.second; third = below_more f.2 h.third; fourth = below_more f.3 h.fourth }
 
-pub four_same : {a b c d p q r s : Name} → a ≡ p → b ≡ q → c ≡ r → d ≡ s → four a b c d ≡ four p q r s
+pub four_same : {a b c d p q r s : Option ℕ} → a ≡ p → b ≡ q → c ≡ r → d ≡ s → four a b c d ≡ four p q r s
 four_same x y z w = cc
 
 -- what fits without the byte for none fits

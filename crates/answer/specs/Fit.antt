@@ -4,16 +4,14 @@
 --     Fits m x          x's number is a byte, its place four bytes, its names are below m
 -- `Fits 256` holds for every answer of the code, by its types. `Fits 255` says that no name is the byte that stands for none.
 -- Assumes nothing.
-use Rattle.std.specs.Prelude.{ℕ, ◌<◌, ◌^◌}
-use Rattle.answer.specs.declared.Name.{Name}
-use Rattle.answer.specs.declared.Name.TheVariants.{Number, None}
+use Rattle.std.specs.Prelude.{ℕ, ◌<◌, ◌^◌, Option, Some, None}
 use Rattle.answer.specs.declared.Four.{Four}
 use Rattle.answer.specs.declared.Answer.{Answer}
 use Rattle.answer.specs.declared.Answer.TheVariants.{Refused, Broken, Consistent}
 use Rattle.answer.specs.NameOf.{names_of, pair_of}
 
-abbrev pub Below : ℕ → Name → Type 0
-Below m (Number k) = k < m
+abbrev pub Below : ℕ → Option ℕ → Type 0
+Below m (Some k) = k < m
 Below m None = Unit
 
 pub record FourBelow (m : ℕ) (f : Four) : Type 0 where

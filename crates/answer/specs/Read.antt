@@ -2,9 +2,7 @@
 --     kind_in w, number_in w, place_in w     kind, number and place           byte_in w i     the byte of name i, 0 to 3
 --     four_in w                            the four names, 255 as none      answer_in w     the answer
 -- Assumes nothing.
-use Rattle.std.specs.Prelude.{cond, ℕ, ◌-◌, ◌*◌, ◌^◌, ◌/◌, ◌%◌, eqb}
-use Rattle.answer.specs.declared.Name.{Name}
-use Rattle.answer.specs.declared.Name.TheVariants.{Number, None}
+use Rattle.std.specs.Prelude.{cond, ℕ, ◌-◌, ◌*◌, ◌^◌, ◌/◌, ◌%◌, eqb, Option, Some, None}
 use Rattle.answer.specs.declared.Four.{Four}
 use Rattle.answer.specs.declared.Names.{Names}
 use Rattle.answer.specs.declared.Names.TheVariants.{Row, Event, Between, Torn, Nobody}
@@ -28,25 +26,25 @@ abbrev pub byte_in : ℕ → ℕ → ℕ
 byte_in w i = w / 2 ^ (24 - 8 * i) % 2 ^ 8
 
 -- 01: "255 for none"
-unfoldable pub name_of : ℕ → Name
-name_of b = cond (eqb b 255) None (Number b)
+unfoldable pub name_of : ℕ → Option ℕ
+name_of b = cond (eqb b 255) None (Some b)
 
 abbrev pub four_in : ℕ → Four
 four_in w = four (name_of (byte_in w 0)) (name_of (byte_in w 1)) (name_of (byte_in w 2)) (name_of (byte_in w 3))
 
 -- 01: 21 and 23 name "R W - A", 22 "E - - -", 24 "R W V A", 25 "R W V -", 26 "- - - -"
-abbrev pub names_in : Name → Name → Name → Name → Names
-names_in (Number r) (Number w) (Number v) (Number a) = Between r w v a
-names_in (Number r) (Number w) (Number v) None = Torn r w v
-names_in (Number r) (Number w) None (Number a) = Row r w a
-names_in (Number e) (Number w) None None = Nobody
-names_in (Number e) None v a = Event e
+abbrev pub names_in : Option ℕ → Option ℕ → Option ℕ → Option ℕ → Names
+names_in (Some r) (Some w) (Some v) (Some a) = Between r w v a
+names_in (Some r) (Some w) (Some v) None = Torn r w v
+names_in (Some r) (Some w) None (Some a) = Row r w a
+names_in (Some e) (Some w) None None = Nobody
+names_in (Some e) None v a = Event e
 names_in None w v a = Nobody
 
 -- 01: "the first two names are the pair"
-abbrev pub pair_named : Name → Name → Settled
-pair_named (Number e) (Number d) = Unsettled e d
-pair_named (Number e) None = Orderly
+abbrev pub pair_named : Option ℕ → Option ℕ → Settled
+pair_named (Some e) (Some d) = Unsettled e d
+pair_named (Some e) None = Orderly
 pair_named None d = Orderly
 
 -- 01: "kind (1, 2, 3)"

@@ -5,9 +5,7 @@
 --     word k n rest     a kind, a number and the rest as one number
 --     packed x          the 64-bit answer
 -- Assumes nothing.
-use Rattle.std.specs.Prelude.{ℕ, ◌+◌, ◌*◌, ◌^◌}
-use Rattle.answer.specs.declared.Name.{Name}
-use Rattle.answer.specs.declared.Name.TheVariants.{Number, None}
+use Rattle.std.specs.Prelude.{ℕ, ◌+◌, ◌*◌, ◌^◌, Option, Some, None}
 use Rattle.answer.specs.declared.Four.{Four}
 use Rattle.answer.specs.declared.Answer.{Answer}
 use Rattle.answer.specs.declared.Answer.TheVariants.{Refused, Broken, Consistent}
@@ -16,8 +14,8 @@ use Rattle.answer.specs.Number.{number_of}
 use Rattle.answer.specs.NameOf.{names_of, pair_of}
 
 -- 01: "255 for none"
-abbrev pub byte_of : Name → ℕ
-byte_of (Number k) = k
+abbrev pub byte_of : Option ℕ → ℕ
+byte_of (Some k) = k
 byte_of None = 255
 
 -- 01: "the four names as bytes, the first most significant"

@@ -45,42 +45,25 @@ pub enum Answer {
     Consistent(Settled),
 }
 
-// One of the four places of an answer's names.
+// The four places of an answer's names, in the order of the line and of the word; a place can be empty.
 #[derive(Clone, Copy)]
-pub enum Name {
-    Number(u8),
-    None,
-}
-
-// The four places, in the order of the line and of the word.
-#[derive(Clone, Copy)]
-pub struct Four(pub Name, pub Name, pub Name, pub Name);
+pub struct Four(
+    pub Option<u8>,
+    pub Option<u8>,
+    pub Option<u8>,
+    pub Option<u8>,
+);
 
 // The names of a broken rule, each in its place.
 pub fn names_of(n: Names) -> Four
     ensures { result ≡ names_of n }
 {
     match n {
-        Names::Row(r, w, a) => Four(
-            Name::Number(r),
-            Name::Number(w),
-            Name::None,
-            Name::Number(a),
-        ),
-        Names::Event(e) => Four(Name::Number(e), Name::None, Name::None, Name::None),
-        Names::Between(r, w, v, a) => Four(
-            Name::Number(r),
-            Name::Number(w),
-            Name::Number(v),
-            Name::Number(a),
-        ),
-        Names::Torn(r, w, v) => Four(
-            Name::Number(r),
-            Name::Number(w),
-            Name::Number(v),
-            Name::None,
-        ),
-        Names::Nobody => Four(Name::None, Name::None, Name::None, Name::None),
+        Names::Row(r, w, a) => Four(Some(r), Some(w), None, Some(a)),
+        Names::Event(e) => Four(Some(e), None, None, None),
+        Names::Between(r, w, v, a) => Four(Some(r), Some(w), Some(v), Some(a)),
+        Names::Torn(r, w, v) => Four(Some(r), Some(w), Some(v), None),
+        Names::Nobody => Four(None, None, None, None),
     }
 }
 
@@ -99,40 +82,39 @@ fn pair_of(s: Settled) -> Four
     ensures { result ≡ pair_of s }
 {
     match s {
-        Settled::Orderly => Four(Name::None, Name::None, Name::None, Name::None),
-        Settled::Unsettled(e, d) => Four(Name::Number(e), Name::Number(d), Name::None, Name::None),
+        Settled::Orderly => Four(None, None, None, None),
+        Settled::Unsettled(e, d) => Four(Some(e), Some(d), None, None),
     }
 }
 
+// What stands for an empty place in the word.
+const NOBODY: u8 = 255;
+
 // A name as a byte of the word.
-fn byte_of(n: Name) -> u8
+fn byte_of(n: Option<u8>) -> u8
     ensures { result ≡ byte_of n }
 {
-    match n {
-        Name::Number(k) => k,
-        Name::None => 255,
-    }
+    n.unwrap_or(NOBODY)
 }
 
 // Four names as bytes, the first most significant.
 pub fn four_bytes(f: Four) -> u32
     ensures { result ≡ four_bytes f }
 {
-    let first = f.0;
-    let second = f.1;
-    let third = f.2;
-    let fourth = f.3;
-    byte_of(first) as u32 * 16777216
-        + byte_of(second) as u32 * 65536
-        + byte_of(third) as u32 * 256
-        + byte_of(fourth) as u32
+    let Four(first, second, third, fourth) = f;
+    u32::from_be_bytes([
+        byte_of(first),
+        byte_of(second),
+        byte_of(third),
+        byte_of(fourth),
+    ])
 }
 
 // kind * 2^40 + number * 2^32 + rest: the word of every entry
 pub fn word(kind: u8, number: u8, rest: u32) -> u64
     ensures { result ≡ word kind number rest }
 {
-    kind as u64 * 1099511627776 + number as u64 * 4294967296 + rest as u64
+    kind as u64 * (1 << 40) + number as u64 * (1 << 32) + rest as u64
 }
 
 // The number that the suite's harness gets.

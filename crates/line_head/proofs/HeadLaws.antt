@@ -6,8 +6,7 @@ use mathlib.Core.List.{◌++◌}
 use Prim.Native.Nat.{ℕ, ◌≤◌}
 use native.Mathlib.Omega.{arith}
 use lib.ListN.{length, length-append}
-use Rattle.answer.specs.declared.Name.{Name}
-use Rattle.answer.specs.declared.Name.TheVariants.{Number, None}
+use Rattle.std.proofs.Common.{Option, Some, None}
 use Rattle.answer.specs.declared.Four.{Four}
 use Rattle.answer.specs.declared.Settled.TheVariants.{Orderly, Unsettled}
 use Rattle.answer.specs.declared.Answer.{Answer}
@@ -24,8 +23,8 @@ pub broken_near : (n : ℕ) (f : Four) → length (numbered n) ≤ 11 → length
 broken_near n f h k =
     omega (arith, h, k, length-append (text "broken" ++ numbered n) (names_text f), length-append (text "broken") (numbered n))
 
-name_bound : (n : Name) → Below 256 n → length (name_text n) ≤ 4
-name_bound (Number k) h = byte_length k h
+name_bound : (n : Option ℕ) → Below 256 n → length (name_text n) ≤ 4
+name_bound (Some k) h = byte_length k h
 name_bound None h = omega arith
 
 names_bound : (f : Four) → FourBelow 256 f → length (names_text f) ≤ 16

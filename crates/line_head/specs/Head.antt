@@ -4,9 +4,7 @@
 --     refused_text n p, broken_text n names, settled_text s    the lines of each kind, up to where the order begins
 --     head_of x          the line of x up to where the order begins
 -- Assumes nothing.
-use Rattle.std.specs.Prelude.{ℕ, List, ◌++◌}
-use Rattle.answer.specs.declared.Name.{Name}
-use Rattle.answer.specs.declared.Name.TheVariants.{Number, None}
+use Rattle.std.specs.Prelude.{ℕ, List, ◌++◌, Option, Some, None}
 use Rattle.answer.specs.declared.Four.{Four}
 use Rattle.answer.specs.declared.Names.{Names}
 use Rattle.answer.specs.declared.Settled.{Settled}
@@ -18,8 +16,8 @@ use Rattle.puts.specs.Text.{text}
 use Rattle.puts.specs.Numbers.{numbered}
 
 -- 01: "`-` for none"
-abbrev pub name_text : Name → List ℕ
-name_text (Number n) = numbered n
+abbrev pub name_text : Option ℕ → List ℕ
+name_text (Some n) = numbered n
 name_text None = text " -"
 
 abbrev pub names_text : Four → List ℕ

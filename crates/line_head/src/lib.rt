@@ -6,7 +6,7 @@ ghost use Rattle.puts.specs.Numbers.{numbered};
 ghost use Rattle.line_head.specs.Head.{name_text, names_text, refused_text, broken_text, settled_text, head_of};
 ghost use Rattle.line_head.specs.Within.{PutsWithin};
 
-use answer::{Answer, Four, Name, Names, Settled};
+use answer::{Answer, Four, Names, Settled};
 
 // Each `put_` function writes at `at` and answers the place after what it wrote; what has no place is not written. How long a piece can be is said too:
 // a number of 32 bits takes at most 11 bytes with its space, and the head of a line at most 64.
@@ -16,22 +16,19 @@ fn put_number(out: &mut [u8], at: usize, n: u32) -> usize
     puts::put_spaced(out, at, n)
 }
 
-fn put_name(out: &mut [u8], at: usize, n: Name) -> usize
+fn put_name(out: &mut [u8], at: usize, n: Option<u8>) -> usize
     ensures { PutsWithin 11 (name_text n) at result out.old out.new }
 {
     match n {
-        Name::Number(k) => put_number(out, at, k as u32),
-        Name::None => puts::put_bytes(out, at, b" -"),
+        Some(k) => put_number(out, at, k as u32),
+        None => puts::put_bytes(out, at, b" -"),
     }
 }
 
 fn put_names(out: &mut [u8], at: usize, f: Four) -> usize
     ensures { PutsWithin 44 (names_text f) at result out.old out.new }
 {
-    let first = f.0;
-    let second = f.1;
-    let third = f.2;
-    let fourth = f.3;
+    let Four(first, second, third, fourth) = f;
     let a = put_name(out, at, first);
     let b = put_name(out, a, second);
     let c = put_name(out, b, third);

@@ -22,10 +22,8 @@ pub fn put_bytes(out: &mut [u8], at: usize, bytes: &[u8]) -> usize
     ensures { Puts bytes.now at result out.old out.new }
 {
     let mut next = at;
-    let mut i = 0;
-    while i < bytes.len() {
-        next = put(out, next, bytes[i]);
-        i += 1;
+    for b in bytes {
+        next = put(out, next, *b);
     }
     next
 }
@@ -34,10 +32,10 @@ fn put_decimal(out: &mut [u8], at: usize, n: u32) -> usize
     ensures { Puts (decimal n) at result out.old out.new }
 {
     if n < 10 {
-        return put(out, at, 48 + n as u8);
+        return put(out, at, b'0' + n as u8);
     }
     let next = put_decimal(out, at, n / 10);
-    put(out, next, 48 + (n % 10) as u8)
+    put(out, next, b'0' + (n % 10) as u8)
 }
 
 // A space and a number.
@@ -53,18 +51,10 @@ pub fn put_events(out: &mut [u8], at: usize, events: &[u8]) -> usize
     ensures { Puts (events_text events.now) at result out.old out.new }
 {
     let mut next = at;
-    let mut i = 0;
-    while i < events.len() {
-        next = put_spaced(out, next, wide(events[i]));
-        i += 1;
+    for e in events {
+        next = put_spaced(out, next, u32::from(*e));
     }
     next
-}
-
-fn wide(x: u8) -> u32
-    ensures { result ≡ x }
-{
-    x as u32
 }
 
 // How many digits a byte has.
@@ -88,14 +78,12 @@ pub fn fits(events: &[u8], at: usize, limit: usize) -> bool
         return false;
     }
     let mut end = at;
-    let mut i = 0;
-    while i < events.len() {
-        let w = width(events[i]) + 1;
+    for e in events {
+        let w = width(*e) + 1;
         if limit - end < w {
             return false;
         }
         end += w;
-        i += 1;
     }
     true
 }

@@ -12,6 +12,7 @@ use native.Mathlib.Numerals.{add-one}
 use lib.Dec.{eqb}
 use lib.ListN.{length, get_or, take}
 use lib.Seq.{take-suc}
+use Rattle.std.proofs.lemmas.List.{take_all}
 use Rattle.basis.proofs.ListLaws.{take_capped}
 use Rattle.format.specs.declared.Shape.{Shape}
 use Rattle.format.specs.Layout.{data_bytes, row_gap, pair_gap}
@@ -30,6 +31,9 @@ module _ (f : ℕ → List ℕ) (at : List ℕ) where
   pub flat_more : (e : ℕ) → e < length at → flat f (take (e + 1) at) ≡ flat f (take e at) ++ f (get_or at e 0)
   flat_more e h = ap (flat f) (rw add-one (take-suc at e 0 h)) ∙ flat_snoc f (take e at) (get_or at e 0)
 
+  pub flat_end : (e : ℕ) → length at ≤ e → flat f (take e at) ≡ flat f at
+  flat_end e h = ap (flat f) (take_all e at h)
+
   pub flat_all : (m n : ℕ) → n ≡ min m (length at) → flat f (take n at) ≡ flat f (take m at)
   flat_all m n c = ap (flat f) (take_capped m n at c)
 
@@ -46,6 +50,9 @@ module _ (f : ℕ → ℕ) where
   module _ (at : List ℕ) where
     pub sum_more : (e : ℕ) → e < length at → sum f (take (e + 1) at) ≡ sum f (take e at) + f (get_or at e 0)
     sum_more e h = ap (sum f) (rw add-one (take-suc at e 0 h)) ∙ sum_snoc (take e at) (get_or at e 0)
+
+    pub sum_end : (e : ℕ) → length at ≤ e → sum f (take e at) ≡ sum f at
+    sum_end e h = ap (sum f) (take_all e at h)
 
     pub sum_all : (m n : ℕ) → n ≡ min m (length at) → sum f (take n at) ≡ sum f (take m at)
     sum_all m n c = ap (sum f) (take_capped m n at c)

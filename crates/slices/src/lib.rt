@@ -43,12 +43,10 @@ pub fn put_events(out: &mut [u8], s: &[u8], x: Counts, at: &[u16]) -> usize
     ensures { Puts (events_slice s.now x at.now) 0 result out.old out.new }
 {
     let edition = x.head.edition;
-    let n = entries::count(x, at);
+    let n = entries::count(x, at) as usize;
     let mut next = 0;
-    let mut e: u8 = 0;
-    while e < n {
-        next = put_event(out, next, s, edition, at[e as usize]);
-        e += 1;
+    for p in &at[..n] {
+        next = put_event(out, next, s, edition, *p);
     }
     next
 }
@@ -82,12 +80,10 @@ pub fn put_data(out: &mut [u8], s: &[u8], x: Counts, at: &[u16]) -> usize
     ensures { Puts (data_slice s.now x at.now) 0 result out.old out.new }
 {
     let edition = x.head.edition;
-    let n = entries::count(x, at);
+    let n = entries::count(x, at) as usize;
     let mut next = 0;
-    let mut e: u8 = 0;
-    while e < n {
-        next = puts::put_bytes(out, next, data_at(s, edition, at[e as usize]));
-        e += 1;
+    for p in &at[..n] {
+        next = puts::put_bytes(out, next, data_at(s, edition, *p));
     }
     next
 }
@@ -97,12 +93,10 @@ pub fn data_count(s: &[u8], x: Counts, at: &[u16]) -> u32
     ensures { DataCounted s.now x at.now result }
 {
     let edition = x.head.edition;
-    let n = entries::count(x, at);
+    let n = entries::count(x, at) as usize;
     let mut sum: u32 = 0;
-    let mut e: u8 = 0;
-    while e < n {
-        sum += sizes::data_bytes(entries::shape_at(s, edition, at[e as usize])) as u32;
-        e += 1;
+    for p in &at[..n] {
+        sum += sizes::data_bytes(entries::shape_at(s, edition, *p)) as u32;
     }
     sum
 }
@@ -111,14 +105,11 @@ pub fn data_count(s: &[u8], x: Counts, at: &[u16]) -> u32
 pub fn put_rows(out: &mut [u8], s: &[u8], x: Counts) -> usize
     ensures { Puts (rows_slice s.now x) 0 result out.old out.new }
 {
-    let n = x.rows;
     let mut next = 0;
-    let mut j: u16 = 0;
-    while j < n {
+    for j in 0..x.rows {
         let r = entries::row_no(s, x, j);
         let bytes = [r.reader, r.address, r.writer];
         next = puts::put_bytes(out, next, &bytes);
-        j += 1;
     }
     next
 }
@@ -127,14 +118,11 @@ pub fn put_rows(out: &mut [u8], s: &[u8], x: Counts) -> usize
 pub fn put_pairs(out: &mut [u8], s: &[u8], x: Counts) -> usize
     ensures { Puts (pairs_slice s.now x) 0 result out.old out.new }
 {
-    let n = x.pairs;
     let mut next = 0;
-    let mut j: u16 = 0;
-    while j < n {
+    for j in 0..x.pairs {
         let p = entries::pair_no(s, x, j);
         let bytes = [p.first, p.second];
         next = puts::put_bytes(out, next, &bytes);
-        j += 1;
     }
     next
 }

@@ -1,5 +1,4 @@
--- `slices::put_pairs` meets its contract. The invariant: the first j pairs are put. The measure is what is left. Assumes nothing.
-use Prim.Native.Nat.{◌-◌, ◌≤◌}
+-- `slices::put_pairs` meets its contract. The invariant: the first j pairs are put. Assumes nothing.
 use Rattle.entries.specs.Entries.{pairs_on}
 use Rattle.encode.specs.Encode.{pair_value}
 use Rattle.encode.specs.Lend.{flat}
@@ -7,7 +6,4 @@ use Rattle.puts.specs.Put.{Puts}
 use Rattle.slices.proofs.put_pairs.Given as goal
 
 abbrev pub invariant-loop-j : goal.invariant-loop-j
-invariant-loop-j l = (l.j ≤ l.n) × Puts (flat pair_value (pairs_on l.s l.x.pairs_at l.j)) 0 l.next l.initial.out l.out
-
-abbrev pub decreases-loop-j : goal.decreases-loop-j
-decreases-loop-j l = l.n - l.j
+invariant-loop-j l = Puts (flat pair_value (pairs_on l.s l.x.pairs_at l.j)) 0 l.next l.initial.out l.out

@@ -1,5 +1,4 @@
--- `slices::put_rows` meets its contract. The invariant: the first j rows are put. The measure is what is left. Assumes nothing.
-use Prim.Native.Nat.{◌-◌, ◌≤◌}
+-- `slices::put_rows` meets its contract. The invariant: the first j rows are put. Assumes nothing.
 use Rattle.entries.specs.Entries.{rows_on}
 use Rattle.encode.specs.Encode.{row_value}
 use Rattle.encode.specs.Lend.{flat}
@@ -7,7 +6,4 @@ use Rattle.puts.specs.Put.{Puts}
 use Rattle.slices.proofs.put_rows.Given as goal
 
 abbrev pub invariant-loop-j : goal.invariant-loop-j
-invariant-loop-j l = (l.j ≤ l.n) × Puts (flat (row_value l.x.head.edition) (rows_on l.s l.x.head.edition l.x.rows_at l.j)) 0 l.next l.initial.out l.out
-
-abbrev pub decreases-loop-j : goal.decreases-loop-j
-decreases-loop-j l = l.n - l.j
+invariant-loop-j l = Puts (flat (row_value l.x.head.edition) (rows_on l.s l.x.head.edition l.x.rows_at l.j)) 0 l.next l.initial.out l.out

@@ -8,7 +8,8 @@ ghost use Rattle.format.specs.Limits.{max_bytes};
 use format::MAX_BYTES;
 use sheet::{Outcome, Reading};
 use std::io;
-use std::io::{Print, Read};
+use std::io::Print;
+use stdin_bytes::read_full;
 
 // The longest sheet that is read, one over the longest that there is: what is longer is no test of this program's.
 const SPACE: usize = MAX_BYTES + 1;
@@ -21,27 +22,6 @@ fn length_of(high: u8, low: u8) -> usize {
 fn number(rt: &HostRuntime, n: u64) -> io::Result<()> {
     rt.write_all(b" ")?;
     rt.print(n)
-}
-
-// Reads until the buffer is full, the input ends or a read fails: how many bytes were read.
-fn read_full(rt: &HostRuntime, buf: &mut [u8]) -> usize
-    ensures { result ≤ length buf.new }
-{
-    let mut input = rt.stdin();
-    let mut n = 0;
-    while n < buf.len() {
-        let rest = &mut buf[n..];
-        match input.read(rest) {
-            Ok(more) => {
-                if more == 0 {
-                    return n;
-                }
-                n += more;
-            }
-            Err(_) => return n,
-        }
-    }
-    n
 }
 
 // The reader's outcome on a sheet, as a line.
@@ -73,7 +53,7 @@ fn sheet_of(rt: &HostRuntime, space: &mut [u8], n: usize) -> io::Result<bool>
     requires { n ≤ length space.old }
 {
     let part = &mut space[..n];
-    let k = read_full(rt, part);
+    let k = read_full(rt, part).unwrap_or(0);
     if k < n {
         return Ok(false);
     }
@@ -86,7 +66,7 @@ fn one(rt: &HostRuntime, space: &mut [u8]) -> io::Result<bool>
     requires { max_bytes < length space.old }
 {
     let mut head = [0u8; 2];
-    let got = read_full(rt, &mut head);
+    let got = read_full(rt, &mut head).unwrap_or(0);
     if got < 2 {
         return Ok(false);
     }

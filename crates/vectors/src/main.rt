@@ -7,6 +7,7 @@ ghost use Rattle.std.specs.Prelude.{◌+◌, ◌<◌, ◌≤◌, length};
 ghost use Rattle.format.specs.Limits.{max_bytes};
 
 use std::io::{Print, Read};
+use stdin_bytes::read_full;
 
 // A length of two bytes.
 fn length_of(high: u8, low: u8) -> usize {
@@ -27,27 +28,6 @@ fn held(n: usize) -> usize
 // A line on standard error; where that is closed too there is nobody to tell.
 fn say(rt: &HostRuntime, line: &[u8]) {
     let _ = rt.stderr().write_all(line).is_ok();
-}
-
-// Reads until the buffer is full, the input ends or a read fails: how many bytes were read.
-fn read_full(rt: &HostRuntime, buf: &mut [u8]) -> usize
-    ensures { result ≤ length buf.new }
-{
-    let mut input = rt.stdin();
-    let mut n = 0;
-    while n < buf.len() {
-        let rest = &mut buf[n..];
-        match input.read(rest) {
-            Ok(more) => {
-                if more == 0 {
-                    return n;
-                }
-                n += more;
-            }
-            Err(_) => return n,
-        }
-    }
-    n
 }
 
 // The judge's answer on a sheet, as a line.
@@ -85,7 +65,7 @@ fn ended(rt: &HostRuntime, got: usize) {
 fn passed(rt: &HostRuntime, n: usize) -> bool {
     let mut next = [0u8; 1];
     for _ in tell::SHEET_BYTES..n {
-        if read_full(rt, &mut next) == 0 {
+        if read_full(rt, &mut next).unwrap_or(0) == 0 {
             return false;
         }
     }
@@ -97,7 +77,7 @@ fn sheet_of(rt: &HostRuntime, space: &mut [u8], n: usize, k: usize) -> bool
     requires { k ≤ length space.old }
 {
     let part = &mut space[..k];
-    let got = read_full(rt, part);
+    let got = read_full(rt, part).unwrap_or(0);
     if got < k {
         cut(rt);
         return false;
@@ -115,7 +95,7 @@ fn one(rt: &HostRuntime, space: &mut [u8]) -> bool
     requires { max_bytes < length space.old }
 {
     let mut head = [0u8; 2];
-    let got = read_full(rt, &mut head);
+    let got = read_full(rt, &mut head).unwrap_or(0);
     if got < 2 {
         ended(rt, got);
         return false;

@@ -5,39 +5,9 @@
 ghost use Rattle.std.specs.Prelude.{◌<◌, length};
 ghost use Rattle.format.specs.Limits.{max_bytes};
 ghost use Rattle.tell.specs.Demands.{Enough, Line};
-ghost use Rattle.verdict.specs.Reading.{Within};
 
-use std::io::{Print, Read};
-
-// What reading comes to: the sheet's length, or a read that failed.
-#[derive(Clone, Copy)]
-enum Got {
-    Sheet(usize),
-    Failed,
-}
-
-// Reads until the buffer is full, the input ends or a read fails. A read that failed is no end: what was read before it is no sheet. A buffer that
-// is no longer than the longest sheet would take a longer one for it.
-fn read_sheet(rt: &HostRuntime, buf: &mut [u8]) -> Got
-    requires { max_bytes < length buf.old }
-    ensures { Within result buf.new }
-{
-    let mut input = rt.stdin();
-    let mut n = 0;
-    while n < buf.len() {
-        let rest = &mut buf[n..];
-        match input.read(rest) {
-            Ok(more) => {
-                if more == 0 {
-                    return Got::Sheet(n);
-                }
-                n += more;
-            }
-            Err(_) => return Got::Failed,
-        }
-    }
-    Got::Sheet(n)
-}
+use std::io::Print;
+use stdin_bytes::read_full;
 
 // A line on standard error; where that is closed too there is nobody to tell.
 fn say(rt: &HostRuntime, line: &[u8]) {
@@ -80,14 +50,13 @@ fn unread(rt: &HostRuntime) {
     );
 }
 
-// Reads the sheet and judges it; where a read fails nothing is judged.
+// Reads the sheet and judges it; where a read fails nothing is judged. A buffer that is no longer than the longest sheet would take a longer one for it.
 fn run(rt: &HostRuntime, buf: &mut [u8])
     requires { max_bytes < length buf.old }
 {
-    let got = read_sheet(rt, buf);
-    match got {
-        Got::Sheet(n) => judge(rt, &buf[..n]),
-        Got::Failed => unread(rt),
+    match read_full(rt, buf) {
+        Ok(n) => judge(rt, &buf[..n]),
+        Err(_) => unread(rt),
     }
 }
 

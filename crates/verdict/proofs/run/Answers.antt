@@ -2,7 +2,7 @@
 use Rattle.verdict.proofs.run.Goals as goal
 
 pub slice_bounds-judge-end : goal.slice_bounds-judge-end
-slice_bounds-judge-end c = (rw c.in-Sheet.is at c.read_sheet-got.ensures).0
+slice_bounds-judge-end c = (rw c.in-Ok.is at c.read_full.ensures).0
 
-pub slice_bounds-judge-end-in-Sheet : goal.slice_bounds-judge-end-in-Sheet
-slice_bounds-judge-end-in-Sheet c = (rw c.in-Sheet.is at c.read_sheet-got.ensures).1
+pub slice_bounds-judge-end-in-Ok : goal.slice_bounds-judge-end-in-Ok
+slice_bounds-judge-end-in-Ok c = (rw c.in-Ok.is at c.read_full.ensures).1

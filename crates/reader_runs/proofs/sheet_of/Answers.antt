@@ -1,6 +1,5 @@
 -- `reader_runs::sheet_of` is safe: the part has the length asked for. Rests on the reads and writes of std.
 use lib.Seq.{length-take-le}
-use Prim.Native.Nat.{◌-◌}
 use mathlib.Core.Path.{sym}
 use Rattle.reader_runs.proofs.sheet_of.Goals as goal
 

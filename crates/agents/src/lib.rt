@@ -17,11 +17,9 @@ fn present(s: &[u8], x: Counts, at: &[u16], seen: &mut [u8])
     ensures { Present (events_in s.now x at.now) seen.new }
 {
     let n = entries::count(x, at);
-    let mut e: u8 = 0;
-    while e < n {
+    for e in 0..n {
         let a = entries::agent_at(s, at[e as usize]);
         seen[a as usize] = 1;
-        e += 1;
     }
 }
 
@@ -32,13 +30,11 @@ pub fn missing(s: &[u8], x: Counts, at: &[u16]) -> bool
     let mut seen = [0u8; AGENT_NUMBERS];
     present(s, x, at, &mut seen);
     let agents = x.head.agents;
-    let mut i: u8 = 0;
-    while i < agents {
+    for i in 0..agents {
         let there = seen[i as usize + 1] == 1;
         if !there {
             return true;
         }
-        i += 1;
     }
     false
 }

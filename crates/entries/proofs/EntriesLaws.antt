@@ -1,17 +1,18 @@
 -- The laws of specs/Entries.antt: what the counts and places of a sheet describe, at a number. Assumes nothing.
 --     events_count, event_at_lem, event_past     how many events, event i, none behind the last
 --     events_capped                          no more than there are places
+--     any_events                             some event passes a test where the event at some of the places does
 --     reads_at_at, reads_at_past, .. meets_at  what event i does
 --     spaced_count, spaced_at, spaced_more, spaced_none     of things a gap apart
 --     rows_count, row_at_lem, pairs_count, pair_at_lem              the same of rows and pairs
 use mathlib.Core.Path.{◌≡◌, refl, sym, ap, ◌∙◌}
-use mathlib.Core.Bool.{false}
+use mathlib.Core.Bool.{Bool, false}
 use mathlib.Core.List.{List, [], ◌∷◌, ◌++◌, map}
 use Prim.Native.Nat.{ℕ, zero, suc, ◌+◌, ◌*◌, ◌<◌, ◌≤◌, min}
 use native.Mathlib.Omega.{arith}
 use native.Mathlib.Numerals.{add-one}
-use lib.ListN.{length, get_or}
-use Rattle.basis.specs.Test.{◌and◌}
+use lib.ListN.{length, get_or, take}
+use Rattle.basis.specs.Test.{◌and◌, ◌or◌, any}
 use Rattle.basis.proofs.ListLaws.{take_capped, front_at, front_past, front_length}
 use Rattle.format.specs.declared.Shape.{Shape}
 use Rattle.format.specs.Shape.{reads, writes, marks, covers, overlap}
@@ -20,7 +21,8 @@ use Rattle.format.specs.Field.{rest_at}
 use Rattle.format.specs.Execution.{event_no, blank_row, no_pair}
 use Rattle.format.specs.Layout.{agent_of, shape_of, access_of, row_gap, pair_gap}
 use Rattle.format.proofs.EventLaws.{reads_at_nobody, writes_at_nobody, is_marker_nobody, reads_at_one, writes_at_one, reads_some_one, is_marker_one, meets_one}
-use Rattle.entries.specs.Entries.{spaced, event_at, row_at, pair_at, events_on, rows_on, pairs_on}
+use Rattle.entries.specs.declared.Counts.{Counts}
+use Rattle.entries.specs.Entries.{spaced, event_at, row_at, pair_at, events_on, rows_on, pairs_on, events_in}
 
 module _ (s : List ℕ) (edition n : ℕ) (at : List ℕ) where
   pub events_count : n ≤ length at → length (events_on s edition n at) ≡ n
@@ -38,6 +40,17 @@ module _ (s : List ℕ) (edition n : ℕ) (at : List ℕ) where
 pub events_capped : (s : List ℕ) (edition n : ℕ) (at : List ℕ) → events_on s edition n at ≡ events_on s edition (min n (length at)) at
 unfolding events_on
 events_capped s edition n at = ap (map (event_at s edition)) (sym (take_capped n (min n (length at)) at refl))
+
+any_map : {A B : Type 0} (f : B → Bool) (g : A → B) (l : List A) → any f (map g l) ≡ any (λ (a : A). f (g a)) l
+unfolding any
+any_map f g [] = refl
+any_map f g (a ∷ l) = ap (λ (z : Bool). f (g a) or z) (any_map f g l)
+
+-- some event passes a test where the event at some of the places does
+pub any_events : (f : Event → Bool) (s : List ℕ) (x : Counts) (at : List ℕ) (n : ℕ) → n ≡ min x.events (length at)
+    → any f (events_in s x at) ≡ any (λ (p : ℕ). f (event_at s x.head.edition p)) (take n at)
+unfolding events_on
+any_events f s x at n e = ap (any f) (events_capped s x.head.edition x.events at) ∙ any_map f (event_at s x.head.edition) _ ∙ ap (λ (m : ℕ). any (λ (p : ℕ). f (event_at s x.head.edition p)) (take m at)) (sym e)
 
 -- what event i does, where there is such an event and where there is none
 module _ (s : List ℕ) (edition n : ℕ) (at : List ℕ) (i : ℕ) where

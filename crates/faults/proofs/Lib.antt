@@ -1,2 +1,3 @@
 pub mod FaultsLaws
+pub mod NumberLaws
 pub mod PlainLaws

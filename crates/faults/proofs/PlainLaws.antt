@@ -6,6 +6,7 @@ use Prim.Native.Nat.{ℕ, ◌+◌, ◌-◌, ◌≤◌, ◌<◌}
 use mathlib.Core.Path.{◌≡◌, refl, sym, ap, ◌∙◌, subst}
 use mathlib.Core.Bool.{Bool, true, false, cond, not, ◌&&◌, ◌||◌}
 use mathlib.Core.List.{List}
+use Rattle.std.specs.Prelude.{Result, is_ok}
 use mathlib.Core.Logic.{◌⊎◌, inl, inr}
 use native.Mathlib.Omega.{arith}
 use borrow.Author.Tests.{eqb-true, eq-eqb, ne_eqb, le-ltb, lt-ltb, leb-true, ltb-true, ltb-false, le-leb, lt-leb, not-true, not-false}
@@ -25,6 +26,9 @@ use Rattle.parse.specs.Parse.{allowed, head_fault, event_fault_by, value_fault_b
 use Rattle.parse.proofs.FormedLaws.{passed, passed_non}
 use Rattle.entries.specs.declared.Counts.{Counts}
 use Rattle.entries.specs.Entries.{events_in}
+use Rattle.faults.specs.declared.Fault.{Fault}
+use Rattle.faults.specs.Number.{told}
+use Rattle.faults.proofs.NumberLaws.{none_told}
 use Rattle.faults.specs.Faults.{room_by, front_bytes, PlainHead, PlainEvent, head_test, ends_test, init_test, other_test, tear_test, HeadTold, InitTold, OtherTold}
 
 -- a value that ends within the sheet is as long as its field says
@@ -253,9 +257,9 @@ module _ (s : List ℕ) (b : Bool) (e : b ≡ ((leb 3 (length s) and leb (next_a
   unfolding head_test
   head_not h = head_told s false (sym (and_fails _ _ (sym e ∙ not-true b h)))
 
-  pub head_all : not b ≡ false → (n : ℕ) → n ≡ head_fault (value_at s 0) → HeadTold s (eqb n 0)
+  pub head_all : not b ≡ false → (r : Result (Unit {0}) Fault) → told r ≡ head_fault (value_at s 0) → HeadTold s (is_ok r)
   unfolding head_test
-  head_all h n f = head_told s (eqb n 0) (ap (λ (m : ℕ). eqb m 0) f ∙ sym (and_holds _ _ (sym e ∙ not-false b h)))
+  head_all h r f = head_told s (is_ok r) (none_told r ∙ ap (λ (m : ℕ). eqb m 0) f ∙ sym (and_holds _ _ (sym e ∙ not-false b h)))
 
 module _ (s : List ℕ) (p : ℕ) (x : Counts) where
   pub init_short : ltb (length s) (p + front_bytes) ≡ true → InitTold s p x false

@@ -1,15 +1,42 @@
-// The first fault of a field, by the counts and places of what stands before it: its refusal's number, 0 for none; and the refusal's place.
+// What a sheet is refused for, and the first fault of a field, by the counts and places of what stands before it; and a refusal's place.
 #![tactic(auto)]
 
 ghost use Rattle.std.specs.Prelude.{◌≡◌, ◌-◌};
 ghost use Rattle.parse.specs.Parse.{place_of, allowed, head_fault, event_fault_by, row_fault, pair_fault, value_fault_by};
 ghost use Rattle.entries.specs.Entries.{events_in, rows_in, pairs_in, execution};
+ghost use Rattle.faults.specs.Number.{number_of, told};
 ghost use Rattle.faults.specs.Faults.{room_by, fault_in, ends_test, HeadTold, InitTold, OtherTold, tear_test};
 
 use entries::Counts;
 use format::field::FIELD_BYTES;
 use format::{MAX_INITS, MAX_OTHERS, MAX_PAIRS, Shape, field};
 use sizes::PAIR_BYTES;
+
+// What is wrong with a sheet, each with its refusal's number. 12 and 13 are of the buffers that are lent to a judge, and no faults of a sheet.
+#[derive(Clone, Copy, PartialEq, Eq, Debug)]
+pub enum Fault {
+    TooLong = 1,
+    CutShort = 2,
+    OutOfPlace = 3,
+    WrongLength = 4,
+    BadHead = 5,
+    BadEvent = 6,
+    BadRow = 7,
+    BadPair = 8,
+    TooMany = 9,
+    NothingRead = 10,
+    NoSource = 11,
+    AgentMissing = 14,
+}
+
+impl Fault {
+    // The refusal's number.
+    pub fn number(self) -> u8
+        ensures { result ≡ number_of self }
+    {
+        self as u8
+    }
+}
 
 // The place of a refusal of a field, from its number and the place of the tag: made here and nowhere else.
 pub fn place_of(number: u8, tag: u16) -> u32
@@ -30,19 +57,19 @@ fn allowed(last: u8, tag: u8) -> bool
     }
 }
 
-fn head_fault(v: &[u8]) -> u8
-    ensures { result ≡ head_fault v.now }
+fn head_fault(v: &[u8]) -> Result<(), Fault>
+    ensures { told result ≡ head_fault v.now }
 {
     let edition = field::byte(v, 0);
     let long = v.len() == sizes::head_bytes(edition) as usize;
     if !long {
-        return 4;
+        return Err(Fault::WrongLength);
     }
     let fits = limits::head_fits(layout::head_of(edition, v));
     if !fits {
-        return 5;
+        return Err(Fault::BadHead);
     }
-    0
+    Ok(())
 }
 
 // The events that are no inits, as counted; none where the inits are more.
@@ -55,93 +82,93 @@ fn others(x: Counts) -> u8
     0
 }
 
-fn event_fault(s: &[u8], x: Counts, at: &[u16], v: &[u8]) -> u8
-    ensures { result ≡ event_fault_by (room_by x) x.head (events_in s.now x at.now) v.now }
+fn event_fault(s: &[u8], x: Counts, at: &[u16], v: &[u8]) -> Result<(), Fault>
+    ensures { told result ≡ event_fault_by (room_by x) x.head (events_in s.now x at.now) v.now }
 {
     let least = sizes::event_bytes(x.head.edition) as usize;
     let short = v.len() < least;
     if short {
-        return 4;
+        return Err(Fault::WrongLength);
     }
     let agent = field::byte(v, 0);
     let a = layout::shape_of(x.head.edition, v);
     let fits = fits::event_fits(s, x, at, agent, a);
     if !fits {
-        return 6;
+        return Err(Fault::BadEvent);
     }
     let exact = v.len() == least + sizes::data_bytes(a) as usize;
     if !exact {
-        return 4;
+        return Err(Fault::WrongLength);
     }
     let room = limits::room_for(x.inits, others(x), agent);
     if !room {
-        return 9;
+        return Err(Fault::TooMany);
     }
-    0
+    Ok(())
 }
 
-fn row_fault(s: &[u8], x: Counts, at: &[u16], v: &[u8]) -> u8
-    ensures { result ≡ row_fault x.head (events_in s.now x at.now) (rows_in s.now x) v.now }
+fn row_fault(s: &[u8], x: Counts, at: &[u16], v: &[u8]) -> Result<(), Fault>
+    ensures { told result ≡ row_fault x.head (events_in s.now x at.now) (rows_in s.now x) v.now }
 {
     let long = v.len() == sizes::row_bytes(x.head.edition) as usize;
     if !long {
-        return 4;
+        return Err(Fault::WrongLength);
     }
     let fits = fits::row_fits(s, x, at, layout::row_of(x.head.edition, v));
     if !fits {
-        return 7;
+        return Err(Fault::BadRow);
     }
-    0
+    Ok(())
 }
 
-fn pair_fault(s: &[u8], x: Counts, at: &[u16], v: &[u8]) -> u8
-    ensures { result ≡ pair_fault (events_in s.now x at.now) (pairs_in s.now x) v.now }
+fn pair_fault(s: &[u8], x: Counts, at: &[u16], v: &[u8]) -> Result<(), Fault>
+    ensures { told result ≡ pair_fault (events_in s.now x at.now) (pairs_in s.now x) v.now }
 {
     let long = v.len() == PAIR_BYTES as usize;
     if !long {
-        return 4;
+        return Err(Fault::WrongLength);
     }
     let fits = fits::pair_fits(s, x, at, layout::pair_of(v));
     if !fits {
-        return 8;
+        return Err(Fault::BadPair);
     }
     let room = x.pairs < MAX_PAIRS;
     if !room {
-        return 9;
+        return Err(Fault::TooMany);
     }
-    0
+    Ok(())
 }
 
-fn value_fault(s: &[u8], x: Counts, at: &[u16], tag: u8, v: &[u8]) -> u8
-    ensures { result ≡ value_fault_by (room_by x) (execution s.now x at.now) tag v.now }
+fn value_fault(s: &[u8], x: Counts, at: &[u16], tag: u8, v: &[u8]) -> Result<(), Fault>
+    ensures { told result ≡ value_fault_by (room_by x) (execution s.now x at.now) tag v.now }
 {
     match tag {
         1 => head_fault(v),
         2 => event_fault(s, x, at, v),
         3 => row_fault(s, x, at, v),
         4 => pair_fault(s, x, at, v),
-        _ => 3,
+        _ => Err(Fault::OutOfPlace),
     }
 }
 
-// The number of the refusal of the field at p; 0 where there is none.
-pub fn fault_at(s: &[u8], p: u16, last: u8, x: Counts, at: &[u16]) -> u8
-    ensures { result ≡ fault_in s.now p last x at.now }
+// The first fault of the field at p, if it has one.
+pub fn fault_at(s: &[u8], p: u16, last: u8, x: Counts, at: &[u16]) -> Result<(), Fault>
+    ensures { told result ≡ fault_in s.now p last x at.now }
 {
     let place = p as usize;
     let stub = s.len() < place + FIELD_BYTES;
     if stub {
-        return 2;
+        return Err(Fault::CutShort);
     }
     let tag = field::byte(s, place);
     let here = allowed(last, tag);
     if !here {
-        return 3;
+        return Err(Fault::OutOfPlace);
     }
     let next = place + FIELD_BYTES + field::length_at(s, p as u32) as usize;
     let over = s.len() < next;
     if over {
-        return 2;
+        return Err(Fault::CutShort);
     }
     value_fault(s, x, at, tag, field::value_at(s, p as u32))
 }
@@ -162,7 +189,7 @@ pub fn plain_head(s: &[u8]) -> bool
     if !here {
         return false;
     }
-    head_fault(v) == 0
+    head_fault(v).is_ok()
 }
 
 // The value of the field at p is one of an event of shape a by its length, and ends within the sheet.

@@ -1,6 +1,6 @@
 -- The laws of specs/steps/ByNumber.antt. Assumes nothing.
 --     reads_no, writes_no, marks_no, agent_no_lem     what event e does, by its shape and agent, whether there is such an event or not
---     blocks_at                     what is asked of event i
+--     blocks_at                     what is asked of the event at a place
 --     stands_free                   an init may stand behind events of which none blocks it
 use mathlib.Core.Path.{◌≡◌, refl, sym, ap, ◌∙◌}
 use mathlib.Core.Bool.{Bool, true, false, cond}
@@ -16,12 +16,12 @@ use Rattle.format.specs.Shape.{no_shape, reads, writes, marks, covers, overlap}
 use Rattle.format.specs.Event.{Event, is_init, reads_at, writes_at, is_marker, meets}
 use Rattle.format.specs.Execution.{event_no}
 use Rattle.format.specs.Field.{rest_at}
-use Rattle.format.specs.Layout.{agent_of, shape_of}
-use Rattle.format.proofs.EventLaws.{covers_nothing}
+use Rattle.format.specs.Layout.{agent_of, shape_of, access_of}
+use Rattle.format.proofs.EventLaws.{covers_nothing, meets_one}
 use Rattle.content.specs.Content.{stands_first}
 use Rattle.entries.specs.declared.Counts.{Counts}
-use Rattle.entries.specs.Entries.{events_on, events_in}
-use Rattle.entries.proofs.EntriesLaws.{events_capped, reads_at_at, reads_at_past, writes_at_at, writes_at_past, is_marker_at, is_marker_past, agent_at, agent_past, meets_at}
+use Rattle.entries.specs.Entries.{event_at, events_on, events_in}
+use Rattle.entries.proofs.EntriesLaws.{events_capped, reads_at_at, reads_at_past, writes_at_at, writes_at_past, is_marker_at, is_marker_past, agent_at, agent_past}
 use Rattle.fits.specs.steps.ByNumber.{shape_no, agent_no, blocks}
 
 module _ (s : List ℕ) (x : Counts) (at : List ℕ) where
@@ -72,13 +72,10 @@ module _ (s : List ℕ) (x : Counts) (at : List ℕ) where
       go true p = rw p (agent_at s ed n at e (ltb-true _ _ p) fits)
       go false p = rw p (agent_past s ed n at e (ltb-false _ _ p))
 
--- what is asked of event i
-pub blocks_at : (s : List ℕ) (edition n : ℕ) (at : List ℕ) (i : ℕ) → i < n → n ≤ length at → (a : Shape)
-    → blocks a (event_no (events_on s edition n at) i) ≡ (non (eqb (agent_of (rest_at s (get_or at i 0))) 0) or overlap a (shape_of edition (rest_at s (get_or at i 0))))
+-- what is asked of the event at a place
+pub blocks_at : (s : List ℕ) (edition p : ℕ) (a : Shape) → blocks a (event_at s edition p) ≡ (non (eqb (agent_of (rest_at s p)) 0) or overlap a (shape_of edition (rest_at s p)))
 unfolding blocks is_init
-blocks_at s edition n at i h k a =
-    ap (λ (g : ℕ). non (eqb g 0) or meets a (event_no (events_on s edition n at) i)) (agent_at s edition n at i h k)
-    ∙ ap (λ (b : Bool). non (eqb (agent_of (rest_at s (get_or at i 0))) 0) or b) (meets_at s edition n at i h k a)
+blocks_at s edition p a = ap (λ (b : Bool). non (eqb (agent_of (rest_at s p)) 0) or b) (meets_one (agent_of (rest_at s p)) (access_of edition (rest_at s p)) a)
 
 free : (p q : Event → Bool) (l : List Event) → (all p l and non (any q l)) ≡ non (any (λ (d : Event). non (p d) or q d) l)
 unfolding all any ◌and◌ ◌or◌ non

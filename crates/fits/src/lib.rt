@@ -42,15 +42,12 @@ fn blocked(s: &[u8], x: Counts, at: &[u16], a: Shape) -> bool
 {
     let n = entries::count(x, at);
     let edition = x.head.edition;
-    let mut i: u8 = 0;
-    while i < n {
-        let p = at[i as usize];
-        let no_init = !(entries::agent_at(s, p) == 0);
-        let hit = no_init | ranges::overlap(a, entries::shape_at(s, edition, p));
+    for p in &at[..n as usize] {
+        let no_init = entries::agent_at(s, *p) != 0;
+        let hit = no_init | ranges::overlap(a, entries::shape_at(s, edition, *p));
         if hit {
             return true;
         }
-        i += 1;
     }
     false
 }

@@ -2,13 +2,12 @@
 --     refused_sheet, short_scratch, short_order     refusals
 --     Admits s x at need scratch order              the sheet is refused by none of 1 to 14, and needs so much scratch
 --     admits                                        what is weighed
-use mathlib.Core.Path.{◌≡◌, refl, ap, ◌∙◌}
+use mathlib.Core.Path.{◌≡◌, refl}
 use mathlib.Core.List.{List}
 use Prim.Native.Nat.{ℕ, ◌-◌, ◌<◌, ◌≤◌, min}
-use native.Mathlib.Omega.{arith}
 use borrow.Author.Tests.{lt-ltb, le-ltb}
 use lib.ListN.{length}
-use Rattle.format.specs.Execution.{Execution, others}
+use Rattle.format.specs.Execution.{Execution}
 use Rattle.entries.specs.declared.Counts.{Counts}
 use Rattle.parse.specs.Parse.{refused, whole, parse}
 use Rattle.entries.specs.Entries.{execution}

@@ -9,7 +9,6 @@ ghost use Rattle.model.specs.Judged.{Judged};
 use answer::Answer;
 use entries::Counts;
 use sets::SLOTS;
-use sheet::Reading;
 use tables::{COLUMNS, ROW_CELLS};
 
 // A whole sheet and its tables: refused where a buffer is too short, else judged.
@@ -42,11 +41,8 @@ pub fn judge(s: &[u8], scratch: &mut [u8], order: &mut [u8]) -> Answer
     let mut at = [0u16; SLOTS];
     let mut t = [0u8; COLUMNS];
     let mut q = [0u8; ROW_CELLS];
-    let o = sheet::reader::fill(s, &mut at, &mut t, &mut q);
-    let reading = o.reading;
-    let x = o.counts;
-    match reading {
-        Reading::Refused(n, p) => Answer::Refused(n, p),
-        Reading::Whole => admit(s, x, &t, &q, scratch, order),
+    match sheet::reader::fill(s, &mut at, &mut t, &mut q) {
+        Ok(x) => admit(s, x, &t, &q, scratch, order),
+        Err(r) => Answer::Refused(r.fault.number(), r.place),
     }
 }

@@ -12,27 +12,17 @@ ghost use Rattle.lacking.specs.Lacking.{lack_of};
 use entries::Counts;
 use format::{Row, Shape};
 
-// The lowest event with a read byte that has no row, if there is one.
-#[derive(Clone, Copy)]
-pub enum Lack {
-    Nothing,
-    Event(u8),
-}
-
 // Does some event read?
 pub fn some_read(s: &[u8], x: Counts, at: &[u16]) -> bool
     ensures { result ≡ any reads_some (events_in s.now x at.now) }
 {
     let n = entries::count(x, at);
     let edition = x.head.edition;
-    let mut i: u8 = 0;
-    while i < n {
-        let p = at[i as usize];
-        let hit = access::reads(entries::shape_at(s, edition, p));
+    for p in &at[..n as usize] {
+        let hit = access::reads(entries::shape_at(s, edition, *p));
         if hit {
             return true;
         }
-        i += 1;
     }
     false
 }
@@ -53,13 +43,11 @@ fn has_row(s: &[u8], x: Counts, e: u8, n: u16, hint: u16) -> bool
             return true;
         }
     }
-    let mut j: u16 = 0;
-    while j < rows {
+    for j in 0..rows {
         let hit = is_row(entries::row_no(s, x, j), e, n);
         if hit {
             return true;
         }
-        j += 1;
     }
     false
 }
@@ -68,19 +56,17 @@ fn has_row(s: &[u8], x: Counts, e: u8, n: u16, hint: u16) -> bool
 fn lacks_from(s: &[u8], x: Counts, e: u8, start: u8, width: u8, hint: u16) -> bool
     ensures { result ≡ any (λ (n : ℕ). non (any (is_row e n) (rows_in s.now x))) (from start width) }
 {
-    let mut i: u8 = 0;
-    while i < width {
+    for i in 0..width {
         let found = has_row(
             s,
             x,
             e,
             start as u16 + i as u16,
-            ((hint as u32 + i as u32) % 65536) as u16,
+            hint.wrapping_add(i as u16),
         );
         if !found {
             return true;
         }
-        i += 1;
     }
     false
 }
@@ -99,26 +85,24 @@ fn lacks(s: &[u8], x: Counts, e: u8, a: Shape, hint: u16) -> bool
 // The number of the row behind those of an event of shape a, where `hint` is that of its first.
 fn past(hint: u16, a: Shape) -> u16 {
     if access::reads(a) {
-        return ((hint as u32 + a.width as u32) % 65536) as u16;
+        return hint.wrapping_add(a.width as u16);
     }
     hint
 }
 
-// The lowest event that has a read byte without a row.
-pub fn lowest_lacking(s: &[u8], x: Counts, at: &[u16]) -> Lack
+// The lowest event that has a read byte without a row, if there is one.
+pub fn lowest_lacking(s: &[u8], x: Counts, at: &[u16]) -> Option<u8>
     ensures { lack_of result ≡ lowest_lacking (execution s.now x at.now) }
 {
     let n = entries::count(x, at);
     let mut hint: u16 = 0;
-    let mut i: u8 = 0;
-    while i < n {
-        let a = entries::shape_at(s, x.head.edition, at[i as usize]);
-        let bad = lacks(s, x, i, a, hint);
+    for e in 0..n {
+        let a = entries::shape_at(s, x.head.edition, at[e as usize]);
+        let bad = lacks(s, x, e, a, hint);
         if bad {
-            return Lack::Event(i);
+            return Some(e);
         }
         hint = past(hint, a);
-        i += 1;
     }
-    Lack::Nothing
+    None
 }

@@ -10,7 +10,7 @@ ghost use Rattle.lend.specs.Lending.{short_by, Lending};
 ghost use Rattle.lend.specs.Word.{lent_word};
 
 use entries::Counts;
-use sheet::{Reading, reader};
+use sheet::reader;
 use sizes::PAIR_BYTES;
 
 #[derive(Clone, Copy)]
@@ -104,13 +104,9 @@ pub fn lend(
 ) -> Lent
     ensures { Lending sheet.now (five head.old events.old bytes.old rows.old pairs.old) result (five head.new events.new bytes.new rows.new pairs.new) }
 {
-    let o = reader::read(sheet);
-    let reading = o.reading;
-    let x = o.counts;
-    let at = o.at;
-    match reading {
-        Reading::Refused(n, p) => Lent::Refused(n, p),
-        Reading::Whole => lend_whole(sheet, x, &at, head, events, bytes, rows, pairs),
+    match reader::read(sheet) {
+        Ok(w) => lend_whole(sheet, w.counts, &w.at, head, events, bytes, rows, pairs),
+        Err(r) => Lent::Refused(r.fault.number(), r.place),
     }
 }
 

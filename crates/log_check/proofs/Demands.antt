@@ -6,7 +6,7 @@ use mathlib.Core.List.{List}
 use mathlib.Core.Option.{Option, none, some}
 use Prim.Native.Nat.{ℕ}
 use native.Mathlib.Omega.{arith}
-use lib.ListN.{length, take, replicate, length-replicate}
+use lib.ListN.{length, take, replicate}
 use Rattle.basis.proofs.FindLaws.{find_none}
 use Rattle.format.specs.declared.Row.{Row}
 use Rattle.format.specs.Execution.{Execution}
@@ -17,7 +17,6 @@ use Rattle.parse.proofs.PromiseLaws.{promise}
 use Rattle.parse.proofs.WellSheetLaws.{exactly}
 use Rattle.orders.specs.Order.{Meets}
 use Rattle.orders.proofs.OrderLaws.{precedes_in}
-use Rattle.marks.specs.Table.{cleared}
 use Rattle.answer.specs.declared.Names.{Names}
 use Rattle.answer.specs.declared.Answer.TheVariants.{Refused as JudgeRefused, Broken as JudgeBroken, Consistent}
 use Rattle.answer.specs.Fit.{Fits}
@@ -25,7 +24,7 @@ use Rattle.model.specs.Happens.{Tests}
 use Rattle.model.specs.Rules.{Fault as RuleFault, faulty, breaks22, fault}
 use Rattle.model.specs.Bar.{bar}
 use Rattle.model.specs.Order.{problem}
-use Rattle.model.specs.Judged.{needed, lent, admitted, Breaks}
+use Rattle.model.specs.Judged.{lent, admitted, Breaks}
 use Rattle.model.proofs.Sound.{Sound, sound}
 use Rattle.model.proofs.EventsLaws.{number_mem}
 use Rattle.model.proofs.HappensLaws.{happens_inside}
@@ -33,7 +32,7 @@ use Rattle.model.proofs.RulesLaws.{clean}
 use Rattle.model.proofs.Serial.{explains}
 use Rattle.model.proofs.VerdictLaws.{few_events}
 use Rattle.model.proofs.FitLaws.{judged_fits, breaks_fits, reader_below, writer_below, address_below}
-use Rattle.model.proofs.JudgedLaws.{admitted_whole, whole_admitted, Short, scratch_short, order_short, refused_cases, moved, same_whole}
+use Rattle.model.proofs.JudgedLaws.{admitted_whole, Short, scratch_short, order_short, refused_cases, moved, same_whole}
 use Rattle.model.proofs.Demands.{testable, demand3}
 use Rattle.log_order.specs.declared.Fault.{Fault}
 use Rattle.log_order.specs.declared.Fault.TheVariants.{WrongLength, BadNumber, TooEarly, Barred}

@@ -13,7 +13,6 @@ use answer::{Names, Rule};
 use entries::Counts;
 use log_order::{Fault, Said};
 use sets::SLOTS;
-use sheet::Reading;
 use tables::{COLUMNS, ROW_CELLS};
 
 #[derive(Clone, Copy)]
@@ -48,12 +47,9 @@ pub fn check(s: &[u8], list: &[u8]) -> Reply
     let mut at = [0u16; SLOTS];
     let mut t = [0u8; COLUMNS];
     let mut q = [0u8; ROW_CELLS];
-    let o = sheet::reader::fill(s, &mut at, &mut t, &mut q);
-    let reading = o.reading;
-    let x = o.counts;
-    match reading {
-        Reading::Refused(n, p) => Reply::Refused(n, p),
-        Reading::Whole => weigh(s, x, &t, &q, list),
+    match sheet::reader::fill(s, &mut at, &mut t, &mut q) {
+        Ok(x) => weigh(s, x, &t, &q, list),
+        Err(r) => Reply::Refused(r.fault.number(), r.place),
     }
 }
 

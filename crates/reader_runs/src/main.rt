@@ -6,7 +6,6 @@ ghost use Rattle.std.specs.Prelude.{◌≤◌, ◌<◌, length};
 ghost use Rattle.format.specs.Limits.{max_bytes};
 
 use format::MAX_BYTES;
-use sheet::{Outcome, Reading};
 use std::io;
 use std::io::Print;
 use stdin_bytes::read_full;
@@ -26,23 +25,22 @@ fn number(rt: &HostRuntime, n: u64) -> io::Result<()> {
 
 // The reader's outcome on a sheet, as a line.
 fn told(rt: &HostRuntime, s: &[u8]) -> io::Result<()> {
-    let o = sheet::reader::read(s);
-    let reading = o.reading;
-    match reading {
-        Reading::Refused(n, p) => {
-            rt.write_all(b"refused")?;
-            number(rt, n as u64)?;
-            rt.write_all(b" at")?;
-            number(rt, p as u64)?;
-        }
-        Reading::Whole => {
+    match sheet::reader::read(s) {
+        Ok(w) => {
+            let x = w.counts;
             rt.write_all(b"read")?;
-            number(rt, o.counts.head.agents as u64)?;
-            number(rt, o.counts.head.size as u64)?;
-            number(rt, o.counts.inits as u64)?;
-            number(rt, o.counts.events as u64)?;
-            number(rt, o.counts.rows as u64)?;
-            number(rt, o.counts.pairs as u64)?;
+            number(rt, x.head.agents as u64)?;
+            number(rt, x.head.size as u64)?;
+            number(rt, x.inits as u64)?;
+            number(rt, x.events as u64)?;
+            number(rt, x.rows as u64)?;
+            number(rt, x.pairs as u64)?;
+        }
+        Err(r) => {
+            rt.write_all(b"refused")?;
+            number(rt, r.fault.number() as u64)?;
+            rt.write_all(b" at")?;
+            number(rt, r.place as u64)?;
         }
     }
     rt.write_all(b"\n")

@@ -14,19 +14,20 @@ use Rattle.format.specs.declared.Head.{Head}
 use Rattle.sets.specs.Mask.{slots}
 use Rattle.format.specs.Execution.{Execution, inits}
 use Rattle.format.specs.Field.{field_place}
-use Rattle.sheet.specs.declared.Reading.{Reading}
-use Rattle.sheet.specs.declared.Reading.TheVariants.{Refused, Whole}
-use Rattle.sheet.specs.declared.Outcome.{Outcome}
-use Rattle.sheet.specs.declared.Read.{Read}
-use Rattle.parse.specs.Parse.{refused, whole}
+use Rattle.std.specs.Prelude.{Result, Ok, Err}
+use Rattle.faults.specs.declared.Fault.{Fault}
+use Rattle.faults.specs.Number.{number_of}
+use Rattle.faults.proofs.NumberLaws.{number_same}
+use Rattle.sheet.specs.declared.Refusal.{Refusal}
+use Rattle.sheet.specs.declared.Whole.{Whole}
+use Rattle.parse.specs.Parse.{refused, whole, parse}
 use Rattle.entries.specs.declared.Counts.{Counts}
 use Rattle.entries.specs.Entries.{execution}
 use Rattle.entries.proofs.EntriesLaws.{events_count, rows_count, pairs_count}
 use Rattle.tables.specs.Tables.{row_room}
 use Rattle.lay.specs.Lay.{events_put, rows_put}
-use Rattle.spot.specs.Between.{blank_places}
-use Rattle.sheet.specs.Handed.{Laid, HandedAs, Handed}
-use Rattle.sheet.specs.Filled.{FilledWhole, FilledAs, Filled}
+use Rattle.sheet.specs.Handed.{Laid, HandedWhole, Handed}
+use Rattle.sheet.specs.Filled.{FilledWhole, Filled}
 
 -- the same fields, the same struct
 counts_path : {h h' : Head} {i i' e e' ra ra' r r' pa pa' p p' : ℕ} → h ≡ h' → i ≡ i' → e ≡ e' → ra ≡ ra' → r ≡ r' → pa ≡ pa' → p ≡ p'
@@ -35,9 +36,11 @@ counts_path : {h h' : Head} {i i' e e' ra ra' r r' pa pa' p p' : ℕ} → h ≡ 
     (record { head = h'; inits = i'; events = e'; rows_at = ra'; rows = r'; pairs_at = pa'; pairs = p' })
 counts_path a b c d e f g = λ i. record { head = a i; inits = b i; events = c i; rows_at = d i; rows = e i; pairs_at = f i; pairs = g i }
 
-outcome_path : {r r' : Reading} {x x' : Counts} {at at' : List ℕ} → r ≡ r' → x ≡ x' → at ≡ at'
-    → ◌≡◌ {A = Outcome} (record { reading = r; counts = x; at = at }) (record { reading = r'; counts = x'; at = at' })
-outcome_path a b c = λ i. record { reading = a i; counts = b i; at = c i }
+whole_path : {x x' : Counts} {at at' : List ℕ} → x ≡ x' → at ≡ at' → ◌≡◌ {A = Whole} (record { counts = x; at = at }) (record { counts = x'; at = at' })
+whole_path a b = λ i. record { counts = a i; at = b i }
+
+refusal_path : {f f' : Fault} {p p' : ℕ} → f ≡ f' → p ≡ p' → ◌≡◌ {A = Refusal} (record { fault = f; place = p }) (record { fault = f'; place = p' })
+refusal_path a b = λ i. record { fault = a i; place = b i }
 
 module _ (s : List ℕ) (x y : Counts) (at bt : List ℕ) (l : Laid s x at) (m : Laid s y bt) (e : execution s x at ≡ execution s y bt) where
   events_same : x.events ≡ y.events
@@ -81,47 +84,41 @@ module _ (s : List ℕ) (x y : Counts) (at bt : List ℕ) (l : Laid s x at) (m :
               let q = ltb-false i x.events p in let n = events_same in let z = l.size in
               unused_at x at l i q (omega arith) ∙ sym (unused_at y bt m i (omega arith) (omega arith))
 
-as_unique : (s : List ℕ) (r q : Reading) (x y : Counts) (at bt : List ℕ) → HandedAs s r x at → HandedAs s q y bt
-    → ◌≡◌ {A = Outcome} (record { reading = r; counts = x; at = at }) (record { reading = q; counts = y; at = bt })
-as_unique s (Refused n p) (Refused m o) x y at bt a b =
-    let e : refused n p ≡ refused m o = sym a.says ∙ b.says in
-    let f : n ≡ m = cc in
-    let g : p ≡ o = cc in
-    outcome_path (λ i. Refused (f i) (g i)) (a.no_counts ∙ sym b.no_counts) (a.no_places ∙ sym b.no_places)
-as_unique s (Refused n p) Whole x y at bt a b =
-    let e : refused n p ≡ whole (execution s y bt) = sym a.says ∙ b.says in absurd (let z : ◌≡◌ {A = ℕ} 0 1 = cc e in omega arith)
-as_unique s Whole (Refused n p) x y at bt a b =
-    let e : whole (execution s x at) ≡ refused n p = sym a.says ∙ b.says in absurd (let z : ◌≡◌ {A = ℕ} 0 1 = cc e in omega arith)
-as_unique s Whole Whole x y at bt a b =
-    let e : whole (execution s x at) ≡ whole (execution s y bt) = sym a.says ∙ b.says in
-    let f : execution s x at ≡ execution s y bt = cc e in
-    outcome_path refl (counts_same s x y at bt a.laid b.laid f) (places_same s x y at bt a.laid b.laid f)
+-- two refusals of a sheet are one; a sheet that is whole is not refused; two readings of a whole sheet are one
+refusal_same : (s : List ℕ) (r g : Refusal) → parse s ≡ refused (number_of r.fault) r.place → parse s ≡ refused (number_of g.fault) g.place → r ≡ g
+refusal_same s r g a b =
+    let e : refused (number_of r.fault) r.place ≡ refused (number_of g.fault) g.place = sym a ∙ b in
+    let f : number_of r.fault ≡ number_of g.fault = cc in
+    let p : r.place ≡ g.place = cc in
+    refusal_path (number_same f) p
 
-pub handed_unique : (s : List ℕ) (o q : Outcome) → Handed s o → Handed s q → o ≡ q
-handed_unique s o q a b = as_unique s o.reading q.reading o.counts q.counts o.at q.at a b
+not_both : {A : Type 0} (s : List ℕ) (n p : ℕ) (x : Execution) → parse s ≡ refused n p → parse s ≡ whole x → A
+not_both s n p x a b = let e : refused n p ≡ whole x = sym a ∙ b in absurd (let z : ◌≡◌ {A = ℕ} 0 1 = cc e in omega arith)
+
+execution_same : (s : List ℕ) (x y : Counts) (at bt : List ℕ) → HandedWhole s x at → HandedWhole s y bt → execution s x at ≡ execution s y bt
+execution_same s x y at bt a b = let e : whole (execution s x at) ≡ whole (execution s y bt) = sym a.says ∙ b.says in cc e
+
+pub handed_unique : (s : List ℕ) (o q : Result Whole Refusal) → Handed s o → Handed s q → o ≡ q
+handed_unique s (Err r) (Err g) a b = ap (λ (z : Refusal). Err z) (refusal_same s r g a.says b.says)
+handed_unique s (Err r) (Ok w) a b = not_both s _ _ _ a.says b.says
+handed_unique s (Ok w) (Err r) a b = not_both s _ _ _ b.says a.says
+handed_unique s (Ok v) (Ok w) a b =
+    let f = execution_same s v.counts w.counts v.at w.at a b in
+    ap (λ (z : Whole). Ok z) (whole_path (counts_same s v.counts w.counts v.at w.at a.laid b.laid f) (places_same s v.counts w.counts v.at w.at a.laid b.laid f))
 
 -- ---- where the tables are filled as well
 
--- the places, blank beside a refusal
-abbrev kept : Reading → List ℕ → List ℕ
-kept (Refused n p) at = blank_places
-kept Whole at = at
-
-handed_of : (s : List ℕ) (r : Reading) (x : Counts) (at t t' q q' : List ℕ) → FilledAs s r x at t t' q q' → HandedAs s r x (kept r at)
-handed_of s (Refused n p) x at t t' q q' a = record { says = a.says; no_counts = a.no_counts; no_places = refl }
-handed_of s Whole x at t t' q q' a = a.handed
-
-pub filled_unique : (s : List ℕ) (r g : Read) (at bt t t' t'' q q' q'' : List ℕ) → Filled s r at t t' q q' → Filled s g bt t t'' q q'' → r ≡ g
-filled_unique s r g at bt t t' t'' q q' q'' a b =
-    ap {B = Read} (λ (o : Outcome). record { reading = o.reading; counts = o.counts })
-    (as_unique s r.reading g.reading r.counts g.counts (kept r.reading at) (kept g.reading bt)
-    (handed_of s r.reading r.counts at t t' q q' a) (handed_of s g.reading g.counts bt t t'' q q'' b))
+pub filled_unique : (s : List ℕ) (r g : Result Counts Refusal) (at bt t t' t'' q q' q'' : List ℕ) → Filled s r at t t' q q' → Filled s g bt t t'' q q'' → r ≡ g
+filled_unique s (Err r) (Err g) at bt t t' t'' q q' q'' a b = ap (λ (z : Refusal). Err z) (refusal_same s r g a.says b.says)
+filled_unique s (Err r) (Ok y) at bt t t' t'' q q' q'' a b = not_both s _ _ _ a.says b.handed.says
+filled_unique s (Ok x) (Err g) at bt t t' t'' q q' q'' a b = not_both s _ _ _ b.says a.handed.says
+filled_unique s (Ok x) (Ok y) at bt t t' t'' q q' q'' a b =
+    ap (λ (z : Counts). Ok z) (counts_same s x y at bt a.handed.laid b.handed.laid (execution_same s x y at bt a.handed b.handed))
 
 pub filled_same : (s : List ℕ) (x y : Counts) (at bt t t' t'' q q' q'' : List ℕ) → FilledWhole s x at t t' q q' → FilledWhole s y bt t t'' q q''
     → (at ≡ bt) × (t' ≡ t'') × (q' ≡ q'')
 filled_same s x y at bt t t' t'' q q' q'' a b =
-    let w : whole (execution s x at) ≡ whole (execution s y bt) = sym a.handed.says ∙ b.handed.says in
-    let f : execution s x at ≡ execution s y bt = cc w in
+    let f = execution_same s x y at bt a.handed b.handed in
     let c = counts_same s x y at bt a.handed.laid b.handed.laid f in
     let p = places_same s x y at bt a.handed.laid b.handed.laid f in
     let u : t' ≡ t'' =

@@ -1,8 +1,7 @@
 -- What is handed over, by the way that it came. Assumes nothing.
 --     laid_of                       a whole sheet's counts and places
 --     place_found                   the place of the event that lacks a row
---     scanned_fault, scanned_end    the fields up to a fault, and through
---     read_refusal, read_whole      what is read
+--     read_whole                    a whole sheet that was read
 use Prim.Native.Nat.{ℕ, ◌<◌, min}
 use mathlib.Core.Path.{◌≡◌, refl, sym, ap, ◌∙◌}
 use mathlib.Core.List.{List}
@@ -16,18 +15,15 @@ use Rattle.parse.proofs.ParseLaws.{finished_whole}
 use Rattle.parse.proofs.PromiseLaws.{promise}
 use Rattle.parse.proofs.CountLaws.{rows_few}
 use Rattle.entries.specs.declared.Counts.{Counts}
-use Rattle.entries.specs.Entries.{events_in, execution}
+use Rattle.entries.specs.Entries.{execution}
 use Rattle.entries.proofs.EntriesLaws.{events_count, rows_count}
 use Rattle.faults.specs.Faults.{view, Counted}
 use Rattle.sets.specs.Mask.{slots}
 use Rattle.tables.specs.Tables.{row_room}
 use Rattle.lay.specs.Lay.{events_put, rows_put}
-use Rattle.sheet.specs.declared.Read.{Read}
 use Rattle.sheet.specs.Handed.{Laid, HandedWhole}
-use Rattle.sheet.specs.Filled.{Filled, FilledWhole}
-use Rattle.spot.specs.declared.Tally.{Tally}
-use Rattle.spot.specs.Between.{Through, Tallied, Tabled}
-use Rattle.sheet.specs.steps.Scanned.{Scanned, refusal}
+use Rattle.sheet.specs.Filled.{FilledWhole}
+use Rattle.spot.specs.Between.{Through, Tabled}
 
 -- what a whole sheet's counts and places are
 pub laid_of : (s : List ℕ) (last : ℕ) (x : Counts) (at : List ℕ) → Through s last x at → (last ≡ 0 → ⊥) → Laid s x at
@@ -50,25 +46,13 @@ place_found s last x at e k l =
     let c = events_count s x.head.edition x.events at k.room in
     ap (λ (p : ℕ). refused 11 (place_of 11 p)) (get_or-take x.events at e 0 (omega arith))
 
--- what is read, by the way that it came
-module _ (s t q : List ℕ) (last : ℕ) (x : Counts) (k : Tally) (at t' q' : List ℕ) where
-  pub scanned_fault : (n p : ℕ) → (n ≡ 0 → ⊥) → parse s ≡ refused n p → Scanned s t q (record { number = n; place = p; last = last; x = x; t = k }) at t' q'
-  scanned_fault n p d h = record { fault = λ z. h; through = λ e. absurd (d e); tallied = λ e. absurd (d e); tabled = λ e. absurd (d e) }
-
-  pub scanned_end : (p : ℕ) → Through s last x at → Tallied (events_in s x at) k → Tabled s x at t t' q q'
-      → Scanned s t q (record { number = 0; place = p; last = last; x = x; t = k }) at t' q'
-  scanned_end p h i j = record { fault = λ z. absurd (z refl); through = λ e. h; tallied = λ e. i; tabled = λ e. j }
-
-pub read_refusal : (s : List ℕ) (n p : ℕ) (r : Read) → r ≡ refusal n p → parse s ≡ refused n p → (at t t' q q' : List ℕ) → Filled s r at t t' q q'
-read_refusal s n p r e h at t t' q q' = rw e (record { says = h; no_counts = refl })
-
-handed_whole : (s : List ℕ) (last : ℕ) (x : Counts) (at : List ℕ) → Through s last x at → whole (execution s x at) ≡ finish s (view s last x at)
+handed_whole : (s : List ℕ) (last : ℕ) (x : Counts) (at : List ℕ) → Through s last x at → finish s (view s last x at) ≡ whole (execution s x at)
     → HandedWhole s x at
 handed_whole s last x at t e =
-    record { says = t.goes ∙ sym e; laid = laid_of s last x at t (λ z. let b = (finished_whole s (view s last x at) (execution s x at) (sym e)).tagged in omega arith) }
+    record { says = t.goes ∙ e; laid = laid_of s last x at t (λ z. let b = (finished_whole s (view s last x at) (execution s x at) e).tagged in omega arith) }
 
 pub read_whole : (s : List ℕ) (last : ℕ) (x : Counts) (at t t' q q' : List ℕ) → Through s last x at → Tabled s x at t t' q q'
-    → whole (execution s x at) ≡ finish s (view s last x at) → FilledWhole s x at t t' q q'
+    → finish s (view s last x at) ≡ whole (execution s x at) → FilledWhole s x at t t' q q'
 read_whole s last x at t t' q q' h d e =
     let w = handed_whole s last x at h e in
     let f = w.laid.few in

@@ -5,19 +5,20 @@ ghost use Rattle.sets.specs.Mask.{slots};
 ghost use Rattle.format.specs.Limits.{max_bytes};
 ghost use Rattle.format.specs.Event.{reads_some};
 ghost use Rattle.format.specs.Field.{tag_at};
-ghost use Rattle.parse.specs.Parse.{missing, lowest_lacking, finish};
+ghost use Rattle.parse.specs.Parse.{place_of, missing, lowest_lacking, finish};
 ghost use Rattle.entries.specs.Entries.{event_at, events_in, execution};
 ghost use Rattle.lacking.specs.Lacking.{lack_of};
 ghost use Rattle.sheet.specs.Handed.{Handed};
 ghost use Rattle.sheet.specs.Filled.{Filled};
 ghost use Rattle.faults.specs.Faults.{view};
+ghost use Rattle.faults.specs.Number.{number_of};
 ghost use Rattle.spot.specs.Between.{Ready, Advanced, Tallied, tally_with, Carried, with_event, with_row, with_pair, Through};
-ghost use Rattle.sheet.specs.steps.Scanned.{Scanned, parsed_of, refusal};
+ghost use Rattle.sheet.specs.steps.Scanned.{Scanned, Finished, refusal_of};
 
-use crate::{Outcome, Read, Reading, Scan};
+use crate::{Refusal, Scan, Whole};
 use entries::Counts;
+use faults::Fault;
 use format::{MAX_BYTES, field};
-use lacking::Lack;
 use sets::SLOTS;
 use spot::Tally;
 use tables::{COLUMNS, ROW_CELLS};
@@ -28,44 +29,32 @@ fn with_event(x: Counts, agent: u8, next: u16) -> Counts
     requires { (x.events < slots) × (x.inits ≤ x.events) }
     ensures { result ≡ with_event x agent next }
 {
-    let h = x.head;
-    let n = x.events + 1;
-    let k = x.inits;
-    if agent == 0 {
-        return Counts {
-            head: h,
-            inits: k + 1,
-            events: n,
-            rows_at: next,
-            rows: 0,
-            pairs_at: next,
-            pairs: 0,
-        };
-    }
-    Counts {
-        head: h,
-        inits: k,
-        events: n,
+    let y = Counts {
+        events: x.events + 1,
         rows_at: next,
         rows: 0,
         pairs_at: next,
         pairs: 0,
+        ..x
+    };
+    if agent == 0 {
+        return Counts {
+            inits: y.inits + 1,
+            ..y
+        };
     }
+    y
 }
 
 fn with_row(x: Counts, next: u16) -> Counts
     requires { x.rows < max_bytes }
     ensures { result ≡ with_row x next }
 {
-    let h = x.head;
     Counts {
-        head: h,
-        inits: x.inits,
-        events: x.events,
-        rows_at: x.rows_at,
         rows: x.rows + 1,
         pairs_at: next,
         pairs: 0,
+        ..x
     }
 }
 
@@ -73,15 +62,9 @@ fn with_pair(x: Counts) -> Counts
     requires { x.pairs < max_bytes }
     ensures { result ≡ with_pair x }
 {
-    let h = x.head;
     Counts {
-        head: h,
-        inits: x.inits,
-        events: x.events,
-        rows_at: x.rows_at,
-        rows: x.rows,
-        pairs_at: x.pairs_at,
         pairs: x.pairs + 1,
+        ..x
     }
 }
 
@@ -146,6 +129,16 @@ fn tally_after(s: &[u8], p: u16, t: Tally) -> Tally
 
 // ---- the loop over all fields
 
+// The refusal for a fault of the field whose tag stands at a place.
+fn at_field(fault: Fault, tag: u16) -> Refusal
+    ensures { result ≡ refusal_of fault (place_of (number_of fault) tag) }
+{
+    Refusal {
+        fault,
+        place: faults::place_of(fault.number(), tag),
+    }
+}
+
 // The fields, front to back, up to the first at fault, the events and rows into the tables.
 fn fields(s: &[u8], at: &mut [u16; SLOTS], t: &mut [u8; COLUMNS], q: &mut [u8]) -> Scan
     requires { length s.now ≤ max_bytes }
@@ -157,13 +150,11 @@ fn fields(s: &[u8], at: &mut [u16; SLOTS], t: &mut [u8; COLUMNS], q: &mut [u8]) 
     let mut last = spot.last;
     let mut p = spot.p;
     while (p as usize) < s.len() {
-        let n = faults::fault_at(s, p, last, x, at);
-        if n != 0 {
+        if let Err(fault) = faults::fault_at(s, p, last, x, at) {
             return Scan {
-                number: n,
-                place: faults::place_of(n, p),
-                last: last,
-                x: x,
+                end: Err(at_field(fault, p)),
+                last,
+                x,
                 t: k,
             };
         }
@@ -174,10 +165,9 @@ fn fields(s: &[u8], at: &mut [u16; SLOTS], t: &mut [u8; COLUMNS], q: &mut [u8]) 
         p = next;
     }
     Scan {
-        number: 0,
-        place: 0,
-        last: last,
-        x: x,
+        end: Ok(()),
+        last,
+        x,
         t: k,
     }
 }
@@ -209,91 +199,81 @@ fn missing(s: &[u8], x: Counts, at: &[u16], t: Tally) -> bool
 }
 
 // The lowest event that has a read byte without a row; none where there are as many rows as read bytes.
-fn lack(s: &[u8], last: u8, x: Counts, at: &[u16], t: Tally) -> Lack
+fn lack(s: &[u8], last: u8, x: Counts, at: &[u16], t: Tally) -> Option<u8>
     requires { Through s.now last x at.now × Tallied (events_in s.now x at.now) t }
     ensures { lack_of result ≡ lowest_lacking (execution s.now x at.now) }
 {
     if t.bytes == x.rows {
-        return Lack::Nothing;
+        return None;
     }
     lacking::lowest_lacking(s, x, at)
 }
 
-fn finish(s: &[u8], last: u8, x: Counts, at: &[u16], t: Tally) -> Reading
-    requires { Through s.now last x at.now × Tallied (events_in s.now x at.now) t }
-    ensures { parsed_of result (execution s.now x at.now) ≡ finish s.now (view s.now last x at.now) }
+// The refusal for a fault of no field: at the start of the sheet.
+fn at_start(fault: Fault) -> Refusal
+    ensures { result ≡ refusal_of fault 0 }
 {
-    let none = last == 0;
-    if none {
-        return Reading::Refused(3, 0);
-    }
-    let some = some_read(s, x, at, t);
-    if !some {
-        return Reading::Refused(10, s.len() as u32);
-    }
-    let lost = missing(s, x, at, t);
-    if lost {
-        return Reading::Refused(14, s.len() as u32);
-    }
-    let lacks = lack(s, last, x, at, t);
-    match lacks {
-        Lack::Nothing => Reading::Whole,
-        Lack::Event(e) => Reading::Refused(11, faults::place_of(11, entries::place_of(at, e))),
+    Refusal { fault, place: 0 }
+}
+
+// The same at its end.
+fn at_end(fault: Fault, s: &[u8]) -> Refusal
+    requires { length s.now ≤ max_bytes }
+    ensures { result ≡ refusal_of fault (length s.now) }
+{
+    Refusal {
+        fault,
+        place: s.len() as u32,
     }
 }
 
-// Beside a refusal the counts are blank.
-fn refuse(number: u8, place: u32) -> Read
-    ensures { result ≡ refusal number place }
+fn finish(s: &[u8], last: u8, x: Counts, at: &[u16], t: Tally) -> Result<(), Refusal>
+    requires { Through s.now last x at.now × Tallied (events_in s.now x at.now) t }
+    ensures { Finished result (execution s.now x at.now) (finish s.now (view s.now last x at.now)) }
 {
-    Read {
-        reading: Reading::Refused(number, place),
-        counts: spot::blank(),
+    let none = last == 0;
+    if none {
+        return Err(at_start(Fault::OutOfPlace));
+    }
+    let some = some_read(s, x, at, t);
+    if !some {
+        return Err(at_end(Fault::NothingRead, s));
+    }
+    let lost = missing(s, x, at, t);
+    if lost {
+        return Err(at_end(Fault::AgentMissing, s));
+    }
+    match lack(s, last, x, at, t) {
+        None => Ok(()),
+        Some(e) => Err(at_field(Fault::NoSource, entries::place_of(at, e))),
     }
 }
 
 // Reads a sheet: its counts and places, with its events and rows in the tables; or the refusal. What the lent arrays hold on entry does not matter.
-pub fn fill(s: &[u8], at: &mut [u16; SLOTS], t: &mut [u8; COLUMNS], q: &mut [u8; ROW_CELLS]) -> Read
+pub fn fill(
+    s: &[u8],
+    at: &mut [u16; SLOTS],
+    t: &mut [u8; COLUMNS],
+    q: &mut [u8; ROW_CELLS],
+) -> Result<Counts, Refusal>
     ensures { Filled s.now result at.new t.old t.new q.old q.new }
 {
     if MAX_BYTES < s.len() {
-        return refuse(1, 0);
+        return Err(at_start(Fault::TooLong));
     }
     let scan = fields(s, at, t, q);
-    if scan.number != 0 {
-        return refuse(scan.number, scan.place);
-    }
-    let x = scan.x;
-    let reading = finish(s, scan.last, x, at, scan.t);
-    match reading {
-        Reading::Refused(n, p) => refuse(n, p),
-        Reading::Whole => Read {
-            reading: Reading::Whole,
-            counts: x,
-        },
-    }
+    scan.end?;
+    finish(s, scan.last, scan.x, at, scan.t)?;
+    Ok(scan.x)
 }
 
-// Reads a sheet: its counts and places, or the refusal; beside that the counts and places are blank.
-pub fn read(s: &[u8]) -> Outcome
+// Reads a sheet: its counts and places, or the refusal.
+pub fn read(s: &[u8]) -> Result<Whole, Refusal>
     ensures { Handed s.now result }
 {
     let mut at = [0u16; SLOTS];
     let mut t = [0u8; COLUMNS];
     let mut q = [0u8; ROW_CELLS];
-    let r = fill(s, &mut at, &mut t, &mut q);
-    let reading = r.reading;
-    let x = r.counts;
-    match reading {
-        Reading::Refused(n, p) => Outcome {
-            reading: Reading::Refused(n, p),
-            counts: spot::blank(),
-            at: [0; SLOTS],
-        },
-        Reading::Whole => Outcome {
-            reading: Reading::Whole,
-            counts: x,
-            at: at,
-        },
-    }
+    let counts = fill(s, &mut at, &mut t, &mut q)?;
+    Ok(Whole { counts, at })
 }

@@ -7,7 +7,7 @@
 --     lacks_order, tells_none, some_order      the test, and that it is one
 --     ordered_fewer         fewer bars keep an order
 --     before_alone          where 22 is not broken, happens-before alone leaves an order
-use mathlib.Core.Path.{◌≡◌, refl, sym, ap, ◌∙◌, subst}
+use mathlib.Core.Path.{◌≡◌, refl, sym, ◌∙◌, subst}
 use mathlib.Core.Logic.{◌↔◌}
 use mathlib.Core.Bool.{Bool, true, false}
 use mathlib.Core.List.{List, [], Memᴰ}
@@ -16,14 +16,12 @@ use Prim.Native.Nat.{ℕ, ◌*◌, ◌<◌, ◌≤◌}
 use native.Mathlib.Omega.{arith}
 use lib.Dec.{T}
 use lib.ListN.{length}
-use Rattle.basis.specs.Test.{those, across, from}
+use Rattle.basis.specs.Test.{across, from}
 use Rattle.basis.proofs.FindLaws.{Sorted, find_none}
 use Rattle.basis.proofs.ListLaws.{across_length, from_length}
 use Rattle.basis.proofs.ThoseLaws.{those_elim, those_intro, those_length, those_sorted}
-use Rattle.format.specs.declared.Row.{Row}
 use Rattle.format.specs.Execution.{Execution, inits, others}
 use Rattle.format.proofs.ExecutionLaws.{writes_covers, covering_inside}
-use Rattle.orders.specs.Problem.{Problem}
 use Rattle.orders.specs.Posed.{Triple, triples, posed}
 use Rattle.orders.specs.Order.{Meets}
 use Rattle.orders.specs.Inits.{Begins}

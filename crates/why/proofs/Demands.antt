@@ -48,7 +48,7 @@ use Rattle.why.specs.declared.Explanation.TheVariants.{Refused, Broken, Consiste
 use Rattle.why.specs.Bars.{all_bars, OrderedBy}
 use Rattle.why.specs.Explained.{scratched, NoOrder, kept_bars, Explained}
 use Rattle.why.specs.Word.{FitsWhy}
-use Rattle.why.specs.Demands.{Result, EveryWhy, Agreement, Core, Stands, KeptMeans, KeptNever, ThreeEvents, IsKept, Alike, AsTheJudge, KeptExactly, Untouched, RoomEnough, FitsWord}
+use Rattle.why.specs.Demands.{Result, EveryWhy, Agreement, Core, KeptMeans, KeptNever, ThreeEvents, IsKept, Alike, AsTheJudge, KeptExactly, Untouched, RoomEnough, FitsWord}
 use Rattle.why.proofs.BarsLaws.{lacks_order, bars_is, three, bars_rise, bars_few, ordered_fewer, tells_none, before_alone}
 use Rattle.why.proofs.ExplainedLaws.{scratched_whole, whole_scratched, refused_sheet, kept_of_lem, explained_unique}
 use Rattle.why.proofs.WordLaws.{explanation_in_lem}

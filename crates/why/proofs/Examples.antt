@@ -2,12 +2,11 @@
 --     Said, say_of s room places     the explanation and the kept list as they compute, happens-before by a table of truth values (model/proofs/Outcome.antt)
 --     said                          it is the one that is Explained
 --     right                         the examples
-use mathlib.Core.Path.{◌≡◌, refl, sym, ap, ◌∙◌, subst}
+use mathlib.Core.Path.{◌≡◌, refl, sym, ap, subst}
 use mathlib.Core.Bool.{Bool, true, false, cond}
 use mathlib.Core.List.{List, [], ◌++◌, Memᴰ, head-eq_of_cons-eq, tail-eq_of_cons-eq}
 use mathlib.Core.Option.{Option, none, some}
-use Prim.Native.Nat.{ℕ, ◌*◌, ◌<◌}
-use native.Mathlib.Omega.{arith}
+use Prim.Native.Nat.{ℕ, ◌*◌}
 use borrow.Author.Tests.{ltb-true, ltb-false}
 use lib.Dec.{ltb}
 use lib.ListN.{length, drop}
@@ -43,7 +42,7 @@ use Rattle.kept.specs.Bars.{bytes_of}
 use Rattle.kept.proofs.NumbersLaws.{bytes_length}
 use Rattle.why.specs.declared.Explanation.{Explanation}
 use Rattle.why.specs.declared.Explanation.TheVariants.{Refused, Broken, Consistent, Kept, Small}
-use Rattle.why.specs.Bars.{all_bars, OrderedBy}
+use Rattle.why.specs.Bars.{all_bars}
 use Rattle.why.specs.Explained.{scratched, NoOrder, kept_bars, Explained}
 use Rattle.why.specs.Examples.{Example, examples, Right}
 use Rattle.why.proofs.BarsLaws.{lacks as lacksOrder, lacks_order, all_bars_lem, tells_none, some_order}

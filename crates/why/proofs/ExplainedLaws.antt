@@ -5,7 +5,6 @@
 --     kept_of_lem                                                the kept list by any such test is the walk's
 --     explained_unique                                       two conforming answers are equal, buffers too
 use mathlib.Core.Path.{◌≡◌, refl, sym, ap, ap₂, ◌∙◌, subst}
-use mathlib.Core.Logic.{◌↔◌, inl, inr}
 use mathlib.Core.Bool.{Bool, true, false, cond}
 use mathlib.Core.List.{List, ◌++◌, Memᴰ}
 use mathlib.Core.Option.{none, some}
@@ -14,7 +13,6 @@ use native.Mathlib.Omega.{arith}
 use borrow.Author.Tests.{lt-ltb, le-ltb, ltb-false}
 use lib.Dec.{T, ltb}
 use lib.ListN.{length, drop, replicate}
-use Rattle.basis.proofs.BoolLaws.{T_true, true_T}
 use Rattle.basis.proofs.ThoseLaws.{those_elim, those_intro}
 use Rattle.format.specs.Execution.{Execution, inits, others}
 use Rattle.entries.specs.declared.Counts.{Counts}
@@ -58,7 +56,7 @@ use Rattle.front.proofs.ProblemLaws.{held_before, held_problem}
 use Rattle.kept.specs.declared.Finding.{Finding}
 use Rattle.kept.specs.declared.Finding.TheVariants.{Order, Bars, Small as FoundSmall, Unfit}
 use Rattle.kept.specs.Bars.{has_bar, table_bars, bytes_of, before_in, Placeable}
-use Rattle.kept.specs.Kept.{kept, KeptOf, TellsNone}
+use Rattle.kept.specs.Kept.{KeptOf, TellsNone}
 use Rattle.kept.specs.Keeps.{Finds, Keeps}
 use Rattle.kept.proofs.KeptLaws.{kept_is, kept_walk, kept_same}
 use Rattle.kept.proofs.BarsLaws.{before_is, has_facts, has_of, triples_mem, triples_same, bars_sorted}

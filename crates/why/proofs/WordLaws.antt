@@ -1,7 +1,7 @@
 -- The laws of specs/Word.antt: what is read from a word is the explanation that it was made of. Assumes nothing.
 --     explanation_in_lem     explanation_in (why_word x) ≡ x, for explanations that fit
 use mathlib.Core.Path.{◌≡◌, refl, ap}
-use Prim.Native.Nat.{ℕ, ◌<◌, ◌^◌}
+use Prim.Native.Nat.{◌<◌}
 use native.Mathlib.Omega.{arith}
 use borrow.Author.Tests.{ne_eqb}
 use Rattle.basis.specs.Test.{◌and◌}
@@ -10,7 +10,7 @@ use Rattle.answer.specs.declared.Settled.TheVariants.{Orderly, Unsettled}
 use Rattle.answer.specs.declared.Answer.TheVariants.{Refused as AnswerRefused, Broken as AnswerBroken, Consistent as AnswerConsistent}
 use Rattle.answer.specs.NameOf.{names_of, pair_of}
 use Rattle.answer.specs.Number.{settled_number}
-use Rattle.answer.specs.Word.{four_bytes, word}
+use Rattle.answer.specs.Word.{four_bytes}
 use Rattle.answer.proofs.WordLaws.{four_more, four_below}
 use Rattle.answer.proofs.ReadLaws.{kind_in_lem, number_in_lem, place_in_lem, answer_in_lem}
 use Rattle.why.specs.declared.Explanation.{Explanation}

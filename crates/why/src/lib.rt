@@ -19,7 +19,6 @@ use entries::Counts;
 use gather::PAIRS;
 use kept::Finding;
 use sets::SLOTS;
-use sheet::Reading;
 use tables::{COLUMNS, ROW_CELLS};
 
 #[derive(Clone, Copy)]
@@ -124,12 +123,9 @@ pub fn explain(s: &[u8], scratch: &mut [u8], out: &mut [u8]) -> Explanation
     let mut at = [0u16; SLOTS];
     let mut t = [0u8; COLUMNS];
     let mut q = [0u8; ROW_CELLS];
-    let o = sheet::reader::fill(s, &mut at, &mut t, &mut q);
-    let reading = o.reading;
-    let x = o.counts;
-    match reading {
-        Reading::Refused(n, p) => Explanation::Refused(n, p),
-        Reading::Whole => admit(s, x, &t, &q, scratch, out),
+    match sheet::reader::fill(s, &mut at, &mut t, &mut q) {
+        Ok(x) => admit(s, x, &t, &q, scratch, out),
+        Err(r) => Explanation::Refused(r.fault.number(), r.place),
     }
 }
 

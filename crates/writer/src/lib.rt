@@ -12,7 +12,7 @@ ghost use Rattle.writer.specs.Word.{written_word};
 
 use format::field::FIELD_BYTES;
 use format::{MAX_BYTES, field};
-use sheet::{Reading, reader};
+use sheet::reader;
 
 #[derive(Clone, Copy)]
 pub enum Written {
@@ -63,16 +63,17 @@ fn tell(s: &[u8], out: &mut [u8]) -> Written
     requires { length s.now ≤ max_bytes }
     ensures { Wrote s.now out.old result out.new }
 {
-    let o = reader::read(s);
-    let reading = o.reading;
-    match reading {
-        Reading::Refused(n, p) => Written::Refused(n, index_of(s, n, p)),
-        Reading::Whole => {
+    match reader::read(s) {
+        Ok(_) => {
             if out.len() < s.len() {
                 return Written::Refused(15, 0);
             }
             let end = puts::put_bytes(out, 0, s);
             Written::Sheet(end as u32)
+        }
+        Err(r) => {
+            let n = r.fault.number();
+            Written::Refused(n, index_of(s, n, r.place))
         }
     }
 }

@@ -8,4 +8,4 @@ pub returns-then-not-here : goal.returns-then-not-here
 returns-then-not-here c = head_not c.args.s.now _ (head_same c.args.s.now c.length_at.result c.byte.result c.length_at.ensures c.byte.ensures) (ap not c.if-not-here.true)
 
 pub returns : goal.returns
-returns c = head_all c.args.s.now _ (head_same c.args.s.now c.length_at.result c.byte.result c.length_at.ensures c.byte.ensures) (ap not c.if-not-here.false) c.head_fault.result (rw c.value_at-v.ensures at c.head_fault.ensures)
+returns c = rw c.is_ok.ensures.value (head_all c.args.s.now _ (head_same c.args.s.now c.length_at.result c.byte.result c.length_at.ensures c.byte.ensures) (ap not c.if-not-here.false) c.head_fault.result (rw c.value_at-v.ensures at c.head_fault.ensures))

@@ -3,7 +3,7 @@ use Rattle.judge.proofs.JudgeLaws.{refused_sheet}
 use Rattle.judge.proofs.judge.Goals as goal
 
 pub admit-requires : goal.admit-requires
-admit-requires c = (_, rw c.in-Whole.is at c.fill-o.ensures)
+admit-requires c = (_, c.in-Ok.ensures)
 
-pub returns-in-Refused : goal.returns-in-Refused
-returns-in-Refused c = refused_sheet (rw c.in-Refused.is at c.fill-o.ensures).says
+pub returns-in-Err : goal.returns-in-Err
+returns-in-Err c = rw c.number.ensures (refused_sheet c.in-Err.ensures.says)

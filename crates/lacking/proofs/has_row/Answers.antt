@@ -1,4 +1,4 @@
--- `lacking::has_row` meets its contract. The invariant: the answer is the answer from row j on. The measure is what is left. Assumes nothing.
+-- `lacking::has_row` meets its contract. The invariant: the answer is the answer from row j on. Assumes nothing.
 use mathlib.Core.Path.{refl, sym, ap, ◌∙◌}
 use native.Mathlib.Omega.{arith}
 use Rattle.basis.proofs.LoopLaws.{any_at, any_none, any_found, any_more}
@@ -15,29 +15,21 @@ returns-then-is_row c =
     (ap (is_row c.args.e c.args.n) (row_at_lem c.args.s.now c.args.x.head.edition c.args.x.rows_at c.args.x.rows c.args.hint c.if-hint-rows.true) ∙ sym (rw c.row_no.ensures at c.is_row.ensures) ∙ c.if-is_row.true))
 
 pub loop-j-init : goal.loop-j-init
-loop-j-init c = (omega arith, refl)
+loop-j-init c = refl
 
 pub returns-then-hit : goal.returns-then-hit
 returns-then-hit c =
     let k = rows_count c.args.s.now c.args.x.head.edition c.args.x.rows_at c.args.x.rows in
-    any_found (is_row c.args.e c.args.n) (rows_in c.args.s.now c.args.x) c.loop-j.j blank_row c.loop-j.invariant.1 (rw k c.loop-j-test.true)
+    any_found (is_row c.args.e c.args.n) (rows_in c.args.s.now c.args.x) c.loop-j.j blank_row c.loop-j.invariant (rw k c.loop-j-test.true)
     (ap (is_row c.args.e c.args.n) (row_at_lem c.args.s.now c.args.x.head.edition c.args.x.rows_at c.args.x.rows c.loop-j.j c.loop-j-test.true) ∙ sym (rw c.row_no-in-loop-j.ensures at c.is_row-hit.ensures) ∙ c.if-hit.true)
-
-pub overflow_add-j : goal.overflow_add-j
-overflow_add-j c = omega arith
-
-pub loop-j-smaller : goal.loop-j-smaller
-loop-j-smaller c = omega arith
 
 pub loop-j-preserved : goal.loop-j-preserved
 loop-j-preserved c =
-    let k = rows_count c.args.s.now c.args.x.head.edition c.args.x.rows_at c.args.x.rows in (
-      omega arith,
-      any_more (is_row c.args.e c.args.n) (rows_in c.args.s.now c.args.x) c.loop-j.j blank_row c.loop-j.invariant.1 (rw k c.loop-j-test.true)
-          (ap (is_row c.args.e c.args.n) (row_at_lem c.args.s.now c.args.x.head.edition c.args.x.rows_at c.args.x.rows c.loop-j.j c.loop-j-test.true) ∙ sym (rw c.row_no-in-loop-j.ensures at c.is_row-hit.ensures) ∙ c.if-hit.false),
-    )
+    let k = rows_count c.args.s.now c.args.x.head.edition c.args.x.rows_at c.args.x.rows in
+    any_more (is_row c.args.e c.args.n) (rows_in c.args.s.now c.args.x) c.loop-j.j blank_row c.loop-j.invariant (rw k c.loop-j-test.true)
+    (ap (is_row c.args.e c.args.n) (row_at_lem c.args.s.now c.args.x.head.edition c.args.x.rows_at c.args.x.rows c.loop-j.j c.loop-j-test.true) ∙ sym (rw c.row_no-in-loop-j.ensures at c.is_row-hit.ensures) ∙ c.if-hit.false)
 
 pub returns : goal.returns
 returns c =
     let k = rows_count c.args.s.now c.args.x.head.edition c.args.x.rows_at c.args.x.rows in
-    any_none (is_row c.args.e c.args.n) (rows_in c.args.s.now c.args.x) c.loop-j.j c.loop-j.invariant.1 (rw k c.loop-j-test.false)
+    any_none (is_row c.args.e c.args.n) (rows_in c.args.s.now c.args.x) c.loop-j.j c.loop-j.invariant (rw k c.loop-j-test.false)

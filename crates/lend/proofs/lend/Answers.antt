@@ -4,7 +4,7 @@ use Rattle.lend.proofs.LendingLaws.{lending_refused}
 use Rattle.lend.proofs.lend.Goals as goal
 
 pub lend_whole-requires : goal.lend_whole-requires
-lend_whole-requires c = rw c.in-Whole.is at c.read-o.ensures
+lend_whole-requires c = c.in-Ok.ensures
 
-pub returns-in-Refused : goal.returns-in-Refused
-returns-in-Refused c = lending_refused (five c.args.head.now c.args.events.now c.args.bytes.now c.args.rows.now c.args.pairs.now) (rw c.in-Refused.is at c.read-o.ensures).says
+pub returns-in-Err : goal.returns-in-Err
+returns-in-Err c = rw c.number.ensures (lending_refused (five c.args.head.now c.args.events.now c.args.bytes.now c.args.rows.now c.args.pairs.now) c.in-Err.ensures.says)

@@ -3,7 +3,7 @@ use Rattle.log_check.proofs.CheckedLaws.{checked_refused}
 use Rattle.log_check.proofs.check.Goals as goal
 
 pub weigh-requires : goal.weigh-requires
-weigh-requires c = (_, rw c.in-Whole.is at c.fill-o.ensures)
+weigh-requires c = (_, c.in-Ok.ensures)
 
-pub returns-in-Refused : goal.returns-in-Refused
-returns-in-Refused c = checked_refused (rw c.in-Refused.is at c.fill-o.ensures).says
+pub returns-in-Err : goal.returns-in-Err
+returns-in-Err c = rw c.number.ensures (checked_refused c.in-Err.ensures.says)

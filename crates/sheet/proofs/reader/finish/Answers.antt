@@ -1,7 +1,6 @@
 -- `sheet::reader::finish` meets its contract, test by test. Assumes nothing.
-use mathlib.Core.Path.{◌≡◌, sym}
+use Rattle.std.proofs.Common.{◌≡◌, sym, arith}
 use mathlib.Core.Option.{none, some}
-use native.Mathlib.Omega.{arith}
 use Rattle.basis.specs.Test.{non}
 use Rattle.parse.specs.Parse.{lowest_lacking, completed, finish}
 use Rattle.entries.specs.Entries.{execution}
@@ -12,39 +11,24 @@ use Rattle.sheet.proofs.reader.finish.Goals as goal
 
 pub returns-then-none : goal.returns-then-none
 unfolding finish
-returns-then-none c = simp (eq-eqb _ _ c.if-none.true)
-
-pub some_read-some-requires : goal.some_read-some-requires
-some_read-some-requires c = c.requires.1
-
-pub overflow_cast-result : goal.overflow_cast-result
-overflow_cast-result c = let k = c.requires.0.short in omega arith
+returns-then-none c = simp (c.at_start.ensures, eq-eqb _ _ c.if-none.true)
 
 pub returns-then-not-some : goal.returns-then-not-some
 unfolding finish non
-returns-then-not-some c = simp ((ne_eqb _ _ c.if-none.false), simp c.some_read-some.ensures at c.if-not-some.true)
-
-pub missing-lost-requires : goal.missing-lost-requires
-missing-lost-requires c = c.requires.1
-
-pub overflow_cast-result-then-lost : goal.overflow_cast-result-then-lost
-overflow_cast-result-then-lost c = let k = c.requires.0.short in omega arith
+returns-then-not-some c = simp (c.at_end.ensures, (ne_eqb _ _ c.if-none.false), simp c.some_read-some.ensures at c.if-not-some.true)
 
 pub returns-then-lost : goal.returns-then-lost
 unfolding finish non
-returns-then-lost c = simp ((ne_eqb _ _ c.if-none.false), simp c.some_read-some.ensures at c.if-not-some.false, simp c.missing-lost.ensures at c.if-lost.true)
+returns-then-lost c = simp (c.at_end-then-lost.ensures, (ne_eqb _ _ c.if-none.false), simp c.some_read-some.ensures at c.if-not-some.false, simp c.missing-lost.ensures at c.if-lost.true)
 
-pub lack-lacks-requires : goal.lack-lacks-requires
-lack-lacks-requires c = c.requires
-
-pub returns-in-Nothing : goal.returns-in-Nothing
+pub returns-in-None : goal.returns-in-None
 unfolding finish non completed
-returns-in-Nothing c =
-    let l : none ≡ lowest_lacking (execution c.args.s.now c.args.x c.args.at.now) = rw c.in-Nothing.is at c.lack-lacks.ensures in
+returns-in-None c =
+    let l : none ≡ lowest_lacking (execution c.args.s.now c.args.x c.args.at.now) = c.in-None.ensures in
     simp ((ne_eqb _ _ c.if-none.false), simp c.some_read-some.ensures at c.if-not-some.false, simp c.missing-lost.ensures at c.if-lost.false, ← l)
 
-pub returns-in-Event : goal.returns-in-Event
+pub returns-in-Some : goal.returns-in-Some
 unfolding finish non
-returns-in-Event c =
-    let l : some _ ≡ lowest_lacking (execution c.args.s.now c.args.x c.args.at.now) = rw c.in-Event.is at c.lack-lacks.ensures in
-    simp ((ne_eqb _ _ c.if-none.false), simp c.some_read-some.ensures at c.if-not-some.false, simp c.missing-lost.ensures at c.if-lost.false, ← l, c.place_of-in-Event.ensures, c.place_of.ensures) (sym (place_found c.args.s.now c.args.last c.args.x c.args.at.now _ (counted_of _ _ _ _ _ c.requires.0.between) (sym l)))
+returns-in-Some c =
+    let l : some c.in-Some.e ≡ lowest_lacking (execution c.args.s.now c.args.x c.args.at.now) = c.in-Some.ensures in
+    simp ((ne_eqb _ _ c.if-none.false), simp c.some_read-some.ensures at c.if-not-some.false, simp c.missing-lost.ensures at c.if-lost.false, ← l, c.at_field.ensures, c.place_of.ensures) (place_found c.args.s.now c.args.last c.args.x c.args.at.now _ (counted_of _ _ _ _ _ c.requires.0.between) (sym l))

@@ -3,24 +3,25 @@
 --     absorb_then swept_row              a row after two pivots, from what each leads to
 --     note_empty note_some               a row noted, or passed over
 --     Looked looked_none looked_more looked_all    which pivots there are, row by row
---     Rewritten rewritten_none rewritten_more      rows rewritten one after another
+--     Rewritten rewritten_none rewritten_more rewritten_row swept_items      rows rewritten one after another
 use mathlib.Core.Path.{◌≡◌, refl, sym, ap, ap₂, ◌∙◌, subst}
 use mathlib.Core.Bool.{Bool, true, false, ◌&&◌, ◌||◌, or-false}
 use mathlib.Core.Logic.{⊎_elim}
-use mathlib.Core.List.{List}
+use mathlib.Core.List.{List, ◌++◌}
 use Prim.Native.Nat.{ℕ, ◌+◌, ◌%◌, ◌≤◌, ◌<◌}
-use native.Mathlib.Nat.{not-suc-le-zero}
+use native.Mathlib.Nat.{not-suc-le-zero, le_refl}
 use native.Mathlib.Omega.{arith}
 use borrow.Author.Tests.{eqb-true}
 use lib.Dec.{eqb}
-use lib.ListN.{length, get_or, set, drop, length-set}
+use lib.ListN.{length, get_or, set, take, drop, length-set, length-append, length-drop, get_or-append}
+use Rattle.std.proofs.lemmas.List.{get_or-take, length-take-le, drop_at}
 use lib.Seq.{get_or-set_same, get_or-set_other, drop-set-lt}
 use lib.Bits.{bit_and, bit_or}
 use Rattle.basis.proofs.BoolLaws.{by_bool, not_both_ways, false_of, bar_left, bar_right, and_parts, eqb_self}
 use Rattle.basis.proofs.ListLaws.{up_more}
 use Rattle.sets.specs.Mask.{slots, mem, Has, pick, insert}
 use Rattle.sets.proofs.MaskLaws.{ext_all, mem_and, mem_or, mem_empty, at_slot, insert_new, insert_old, insert_cases}
-use Rattle.closing.specs.steps.Sweep.{absorb, pivot, noted, Pivots}
+use Rattle.closing.specs.steps.Sweep.{succ_of, absorb, pivot, noted, Pivots, Swept}
 
 -- ---- one row after a pivot
 
@@ -149,3 +150,17 @@ rewritten_more {g} {n} {i} {r₀} {r} v l il is w = record {
   same = λ e h. get_or-set_other r i e v 0 (λ q. omega arith) ∙ w.same e (omega arith);
   rest = drop-set-lt n r i v l ∙ w.rest;
 }
+
+-- the first n rows rewritten, as a part of the table
+pub swept_items : {n k j i : ℕ} {rows items : List ℕ} → n ≤ length rows → n ≤ i → Rewritten (pivot j (pivot k (succ_of rows))) n i (take n rows) items → Swept n k j rows (items ++ drop n rows)
+swept_items {n} {k} {j} {i} {rows} {items} few all w =
+    let z : length items ≡ n = w.size ∙ length-take-le n rows few in
+    record {
+      size = length-append items (drop n rows) ∙ (let d = length-drop n rows in omega (arith, z, d));
+      each = λ e l. get_or-append items (drop n rows) 0 e (omega (arith, z)) ∙ w.done e (omega arith);
+      rest = drop_at items (drop n rows) n z;
+    }
+
+-- the row that is rewritten next
+pub rewritten_row : {g : ℕ → ℕ} {n i : ℕ} {items : List ℕ} (rows : List ℕ) → Rewritten g n i (take n rows) items → i < n → get_or items i 0 ≡ get_or rows i 0
+rewritten_row {n = n} {i = i} rows w l = w.same i (le_refl i) ∙ get_or-take n rows i 0 l

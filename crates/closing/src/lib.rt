@@ -25,9 +25,9 @@ fn pivots(rows: &[u32], n: usize) -> u32
 {
     let mut into: u32 = 0;
     let mut from: u32 = 0;
-    for e in 0..n {
-        into = into | rows[e];
-        from = note(from, e, rows[e]);
+    for (e, &x) in rows[..n].iter().enumerate() {
+        into |= x;
+        from = note(from, e, x);
     }
     into & from
 }
@@ -64,8 +64,8 @@ fn sweep(rows: &mut [u32], n: usize, k: usize, j: usize)
     let first = rows[k];
     let other = absorb(rows[j], k, first);
     let row = absorb(first, j, other);
-    for i in 0..n {
-        rows[i] = absorb_both(rows[i], k, row, j, other);
+    for x in &mut rows[..n] {
+        *x = absorb_both(*x, k, row, j, other);
     }
 }
 
@@ -77,6 +77,7 @@ pub fn close(rows: &mut [u32], n: usize)
 {
     let m = least(n, least(SLOTS, rows.len()));
     let mut left = pivots(rows, m);
+    // Two pivots are taken a turn, where a `for` over the members of a set takes one.
     while left != 0 {
         let k = sets::lowest(left);
         let others = sets::without(left, k);

@@ -1,16 +1,19 @@
 -- The laws of specs/Writers.antt. Assumes nothing.
 --     readers_none readers_more writers_empty     the readers that have bars with v; none
 --     writers_none writers_in_lem writers_out     the writers that have bars with v, one after the other
+--     row_length row_at                a row of masks, as a part of the table
 --     writers_unique gathers_unique    two conforming answers agree: the writers that have bars with v, and those of each event
-use Prim.Native.Nat.{ℕ, ◌+◌, ◌<◌, ◌≤◌, ◌-◌}
+use Prim.Native.Nat.{ℕ, ◌+◌, ◌<◌, ◌≤◌, ◌-◌, min}
 use mathlib.Core.Path.{◌≡◌, sym, ap, subst, ◌∙◌}
 use mathlib.Core.Bool.{true, false, ◌||◌}
 use mathlib.Core.Logic.{◌⊎◌, inl, inr, ⊎_elim}
-use mathlib.Core.List.{List}
+use mathlib.Core.List.{List, ◌++◌}
 use native.Mathlib.Omega.{arith}
 use native.Mathlib.Decide.{ℕ_discrete, dec_lt}
 use lib.Bits.{bit_or}
-use lib.ListN.{length, get_or}
+use lib.ListN.{length, get_or, drop, length-drop, length-append, get_or-append, drop_of_length-le}
+use borrow.Rule.Slice.PartMut.{mid_of}
+use Rattle.std.proofs.lemmas.List.{get_or-take, length-take-le, drop_at}
 use lib.Seq.{ext_get_or, get_or-drop}
 use Rattle.basis.proofs.BoolLaws.{not_both_ways, bar_left, bar_right, bool_ext, false_of, by_bool}
 use Rattle.sets.specs.Mask.{slots, mem, Has, insert}
@@ -66,6 +69,21 @@ module _ {bars : List ℕ} {j v c : ℕ} (have : Writers j bars v c) where
       new w r l h (no q) = have.all w r (omega (arith, q)) h
       new w r l h (yes q) = absurd (not_both_ways h (ap (λ (x : ℕ). mem (bar_at bars v x) r) q ∙ ap (λ (x : ℕ). mem x r) z ∙ mem_empty r))
 
+-- ---- the masks of as many of the first m events as there is room for
+
+pub gathers_part : {m room : ℕ} {bars ws : List ℕ} (items : List ℕ) → room ≡ min m (length ws) → length items ≡ room → ((v : ℕ) → v < room → Writers m bars v (get_or items v 0)) → Gathers m bars ws (items ++ drop room ws)
+gathers_part {m} {room} {bars} {ws} items r z each =
+    let size : length (items ++ drop room ws) ≡ length ws = length-append items (drop room ws) ∙ (let d = length-drop room ws in omega (arith, z, d, r)) in
+    record {
+      size = size;
+      each = λ v h k. subst (Writers m bars v) (sym (get_or-append items (drop room ws) 0 v (omega (arith, z, r)))) (each v (omega (arith, r)));
+      rest = go (dec_lt m (length ws)) size;
+    }
+  where
+    go : Dec (m < length ws) → length (items ++ drop room ws) ≡ length ws → drop m (items ++ drop room ws) ≡ drop m ws
+    go (yes l) e = let q : room ≡ m = omega (arith, r) in drop_at items (drop room ws) m (z ∙ q) ∙ ap (λ (x : ℕ). drop x ws) q
+    go (no f) e = drop_of_length-le (items ++ drop room ws) (omega (arith, e, f)) ∙ sym (drop_of_length-le ws (omega (arith, f)))
+
 -- ---- two conforming answers
 
 module _ {m : ℕ} {bars : List ℕ} where
@@ -89,3 +107,11 @@ module _ {m : ℕ} {bars ws p q : List ℕ} (a : Gathers m bars ws p) (b : Gathe
 
   pub gathers_unique : p ≡ q
   gathers_unique = ext_get_or 0 p q (a.size ∙ sym b.size) (λ v l. same_mask v l (dec_lt v m))
+
+-- ---- a row of masks, as a part of the table
+
+pub row_length : (bars : List ℕ) (a n : ℕ) → a + n ≤ length bars → length (mid_of a n bars) ≡ n
+row_length bars a n h = let d = length-drop a bars in length-take-le n (drop a bars) (omega (arith, d))
+
+pub row_at : (bars : List ℕ) (a n i : ℕ) → i < n → get_or (mid_of a n bars) i 0 ≡ get_or bars (a + i) 0
+row_at bars a n i l = get_or-take n (drop a bars) i 0 l ∙ get_or-drop a bars i 0

@@ -17,8 +17,8 @@ fn readers_of(bars: &[u32; PAIRS], v: usize) -> u32
     ensures { Readers slots bars.now v result }
 {
     let mut c = 0;
-    for w in 0..SLOTS {
-        c = c | bars[v * SLOTS + w];
+    for readers in &bars[v * SLOTS..(v + 1) * SLOTS] {
+        c |= readers;
     }
     c
 }
@@ -32,8 +32,8 @@ fn writers_of(m: usize, bars: &[u32; PAIRS], v: usize) -> u32
         return 0;
     }
     let mut c = 0;
-    for w in 0..m {
-        if bars[v * SLOTS + w] != 0 {
+    for (w, &readers) in bars[v * SLOTS..v * SLOTS + m].iter().enumerate() {
+        if readers != 0 {
             c = sets::with(c, w);
         }
     }
@@ -46,7 +46,7 @@ pub fn gather(m: usize, bars: &[u32; PAIRS], writers: &mut [u32])
 {
     let n = least(m, SLOTS);
     let room = least(n, writers.len());
-    for v in 0..room {
-        writers[v] = writers_of(n, bars, v);
+    for (v, c) in writers[..room].iter_mut().enumerate() {
+        *c = writers_of(n, bars, v);
     }
 }

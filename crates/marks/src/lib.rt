@@ -46,7 +46,5 @@ pub fn clear(table: &mut [u8], len: usize)
     ensures { table.new ≡ cleared len table.old }
 {
     let n = least(len, table.len());
-    for i in 0..n {
-        table[i] = 0;
-    }
+    table[..n].fill(0);
 }

@@ -1,12 +1,13 @@
 -- The laws of a turn of `next`: which events are left to be tried. Over any test of an event and any mark. Assumes nothing.
 --     Untried    each event from `from` on, below m, that passes is marked, or is left; none that is left is in s
---     untried_start, untried_lowest, untried_hit, untried_next, untried_end     a loop over those left, the lowest first
+--     untried_start, untried_lowest, untried_hit, untried_next, untried_taken, untried_end     a loop over those left, the lowest first
 use mathlib.Core.Path.{◌≡◌, sym, ap, ◌∙◌, subst}
 use mathlib.Core.Bool.{Bool, true, false}
 use mathlib.Core.Logic.{◌⊎◌, inl, inr, ⊎_elim}
 use Prim.Native.Nat.{ℕ, ◌^◌, ◌<◌, ◌≤◌, min}
 use native.Mathlib.Omega.{arith}
 use Rattle.basis.proofs.BoolLaws.{not_both_ways, false_of}
+use Rattle.sets.specs.Members.{Taken}
 use Rattle.sets.specs.Mask.{slots, mem, Has, remove, Lowest, Rest}
 use Rattle.sets.proofs.MaskLaws.{lt_of_members, mem_empty, mem_lt, remove_le, remove_old, remove_cases}
 
@@ -44,3 +45,7 @@ module _ {s m from : ℕ} {Q : ℕ → Type 0} {seen : ℕ → Bool} where
             only = λ d h. u.only d (remove_old left e d h);
             tried = λ d a b l q. ⊎_elim (λ g. inl g) (λ g. ⊎_elim (λ p. inl (subst (λ (i : ℕ). seen i ≡ true) (sym p) (pass (subst Q p q)))) (λ p. inr p) (remove_cases left e d g)) (u.tried d a b l q);
           }
+
+    -- a turn of a `for` over those left
+    pub untried_taken : {e t : ℕ} → Taken left e t → (Q e → seen e ≡ true) → Untried s m from Q seen t
+    untried_taken k pass = subst (Untried s m from Q seen) (sym k.rest) (untried_next k.low k.some pass)

@@ -6,8 +6,9 @@
 --     is_seen k table s e          whether the table marks the set s with e
 --     NextFree k m .. s from r    r is the lowest event from `from` on, below m, that is free and leads to a set that is not marked, or m
 --     LowestFree m .. s from r    r is the lowest event from `from` on, below m, that is free, or m
+--     FoundBelow m P r            r is an event below m of which P says so, or none, and then P says so of m: P as the two above
 --     Entered k s e depth ..      a step on: the set with e, its mark, and e on the path
-use Rattle.std.specs.Prelude.{ℕ, ◌<◌, ◌≤◌, ◌≡◌, Bool, true, false, List, get_or, set}
+use Rattle.std.specs.Prelude.{Option, MatchOption, ℕ, ◌<◌, ◌≤◌, ◌≡◌, Bool, true, false, List, get_or, set}
 use Rattle.sets.specs.Mask.{slots, Has, Within, insert, above}
 use Rattle.marks.specs.Table.{is_marked, marking}
 use Rattle.gather.specs.Writers.{bar_at}
@@ -36,6 +37,9 @@ pub record LowestFree (m : ℕ) (before bars writers : List ℕ) (s from r : ℕ
   pub place : r < m → (from ≤ r) × (r < slots)
   pub free : r < m → Free before bars (get_or writers r 0) s r
   pub none : (d : ℕ) → from ≤ d → d < r → d < slots → Free before bars (get_or writers d 0) s d → ⊥
+
+abbrev pub FoundBelow : ℕ → (ℕ → Type 0) → Option ℕ → Type 0
+FoundBelow m P r = MatchOption r (P m) (λ (e : ℕ). (e < m) × P e)
 
 pub record Entered (k s e depth : ℕ) (table path : List ℕ) (r : ℕ) (table' path' : List ℕ) : Type 0 where
   pub grown : r ≡ insert s e

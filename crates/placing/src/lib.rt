@@ -7,7 +7,7 @@
 ghost use Rattle.std.specs.Prelude.{◌≡◌, false, ◌%◌, ◌<◌};
 ghost use Rattle.sets.specs.Tells.{Tells};
 ghost use Rattle.sets.specs.Mask.{slots, mem};
-ghost use Rattle.placing.specs.Placing.{Unbarred, Free, NextFree, LowestFree, Entered};
+ghost use Rattle.placing.specs.Placing.{Unbarred, Free, FoundBelow, NextFree, LowestFree, Entered};
 
 use gather::PAIRS;
 use sets::SLOTS;
@@ -17,13 +17,10 @@ fn unbarred(bars: &[u32; PAIRS], writers: u32, s: u32, v: usize) -> bool
     requires { v < slots }
     ensures { Tells result (Unbarred bars.now writers s v) }
 {
-    let mut left = writers & s;
-    while left != 0 {
-        let w = sets::lowest(left);
+    for w in sets::members(writers & s) {
         if !sets::subset(bars[v * SLOTS + w], s) {
             return false;
         }
-        left = sets::without(left, w);
     }
     true
 }
@@ -39,7 +36,7 @@ fn may(before: &[u32; SLOTS], bars: &[u32; PAIRS], writers: u32, s: u32, v: usiz
     unbarred(bars, writers, s, v)
 }
 
-// The lowest event from `from` on, below m, that can be placed after those of the set s and leads to a set that is not marked; m if there is none.
+// The lowest event from `from` on, below m, that can be placed after those of the set s and leads to a set that is not marked; none if there is no such event.
 pub fn next(
     k: usize,
     m: usize,
@@ -49,24 +46,21 @@ pub fn next(
     table: &[u8],
     s: u32,
     from: usize,
-) -> usize
-    ensures { NextFree (k % slots) m before.now bars.now writers.now table.now s from result }
+) -> Option<usize>
+    ensures { FoundBelow m (NextFree (k % slots) m before.now bars.now writers.now table.now s from) result }
 {
-    let mut left = sets::rest(s, from, m);
-    while left != 0 {
-        let e = sets::lowest(left);
+    for e in sets::members(sets::rest(s, from, m)) {
         if may(before, bars, writers[e], s, e) {
             let x = sets::above(sets::with(s, e), k);
             if !marks::marked(table, x as usize) {
-                return e;
+                return Some(e);
             }
         }
-        left = sets::without(left, e);
     }
-    m
+    None
 }
 
-// The lowest event from `from` on, below m, that can be placed after those of the set s, whatever it leads to; m if there is none.
+// The lowest event from `from` on, below m, that can be placed after those of the set s, whatever it leads to; none if there is no such event.
 pub fn lowest(
     m: usize,
     before: &[u32; SLOTS],
@@ -74,18 +68,15 @@ pub fn lowest(
     writers: &[u32; SLOTS],
     s: u32,
     from: usize,
-) -> usize
-    ensures { LowestFree m before.now bars.now writers.now s from result }
+) -> Option<usize>
+    ensures { FoundBelow m (LowestFree m before.now bars.now writers.now s from) result }
 {
-    let mut left = sets::rest(s, from, m);
-    while left != 0 {
-        let v = sets::lowest(left);
+    for v in sets::members(sets::rest(s, from, m)) {
         if may(before, bars, writers[v], s, v) {
-            return v;
+            return Some(v);
         }
-        left = sets::without(left, v);
     }
-    m
+    None
 }
 
 // A step on: places e after the events of s, marks the new set and puts e on the path; a place beyond the path's end is not written.

@@ -1,10 +1,6 @@
--- `closing::pivots` meets its contract: the first e rows have been looked at (`Looked`). The measure is what is left. Assumes nothing.
-use Prim.Native.Nat.{◌-◌, ◌≤◌}
+-- `closing::pivots` meets its contract: the first e rows have been looked at (`Looked`). Assumes nothing.
 use Rattle.closing.proofs.SweepLaws.{Looked}
 use Rattle.closing.proofs.pivots.Given as goal
 
 abbrev pub invariant-loop-e : goal.invariant-loop-e
-invariant-loop-e l = (l.e ≤ l.n) × Looked l.e l.rows l.into l.from
-
-abbrev pub decreases-loop-e : goal.decreases-loop-e
-decreases-loop-e l = l.n - l.e
+invariant-loop-e l = Looked l.e l.rows l.into l.from

@@ -1,27 +1,22 @@
--- `closing::sweep` meets its contract: the first i rows are rewritten (`Rewritten`), each by what both pivots lead to, which is what pivot j makes of
--- what pivot k makes of it (`absorb_then`). The measure is what is left. Assumes nothing.
-use Prim.Native.Nat.{◌-◌, zero-le}
-use native.Mathlib.Nat.{le_refl}
+-- `closing::sweep` meets its contract: the rows so far are rewritten (`Rewritten`), each by what both pivots lead to, which is what pivot j makes of
+-- what pivot k makes of it (`absorb_then`). Assumes nothing.
 use native.Mathlib.Omega.{arith}
+use Rattle.std.proofs.lemmas.List.{length-take-le}
 use Rattle.closing.specs.steps.Sweep.{succ_of}
-use Rattle.closing.proofs.SweepLaws.{swept_row, rewritten_none, rewritten_more}
+use Rattle.closing.proofs.SweepLaws.{swept_row, rewritten_none, rewritten_more, rewritten_row, swept_items}
 use Rattle.closing.proofs.sweep.Goals as goal
 
-pub loop-i-init : goal.loop-i-init
-loop-i-init c = (zero-le, rewritten_none _ _ _)
+pub loop-x-init : goal.loop-x-init
+loop-x-init c = rewritten_none _ _ _
 
-pub loop-i-preserved : goal.loop-i-preserved
-loop-i-preserved c =
-    let l = c.loop-i in
-    let a = c.args in (
-      omega arith,
-      rewritten_more c.absorb_both.result (omega arith) (omega arith)
-          (swept_row (succ_of a.rows.now) a.k a.j l.i (omega arith) (omega arith) (l.invariant.1.same l.i (le_refl l.i)) c.absorb-other.ensures c.absorb-row.ensures c.absorb_both.ensures)
-          l.invariant.1,
-    )
-
-pub shape_of-rows : goal.shape_of-rows
-shape_of-rows c = c.loop-i.invariant.1.size
+pub loop-x-preserved : goal.loop-x-preserved
+loop-x-preserved c =
+    let l = c.loop-x in
+    let a = c.args in
+    let z = length-take-le a.n a.rows.now c.requires.3 in
+    rewritten_more c.absorb_both.result (omega (arith, z)) (omega arith)
+    (swept_row (succ_of a.rows.now) a.k a.j l.x-index (omega arith) (omega arith) (rewritten_row a.rows.now l.invariant (omega (arith, z))) c.absorb-other.ensures c.absorb-row.ensures c.absorb_both.ensures)
+    l.invariant
 
 pub returns : goal.returns
-returns c = let l = c.loop-i in record { size = l.invariant.1.size; each = λ e h. l.invariant.1.done e (omega arith); rest = l.invariant.1.rest }
+returns c = let z = length-take-le c.args.n c.args.rows.now c.requires.3 in swept_items c.requires.3 (omega (arith, z)) c.loop-x.invariant

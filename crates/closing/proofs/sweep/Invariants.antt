@@ -1,12 +1,8 @@
--- `closing::sweep` meets its contract: the first i rows are rewritten (`Rewritten`), each by what both pivots lead to, which is what pivot j makes of
--- what pivot k makes of it (`absorb_then`). The measure is what is left. Assumes nothing.
-use Prim.Native.Nat.{◌-◌, ◌≤◌}
+-- `closing::sweep` meets its contract: the rows so far are rewritten (`Rewritten`), each by what both pivots lead to, which is what pivot j makes of
+-- what pivot k makes of it (`absorb_then`). Assumes nothing.
 use Rattle.closing.specs.steps.Sweep.{succ_of, pivot}
 use Rattle.closing.proofs.SweepLaws.{Rewritten}
 use Rattle.closing.proofs.sweep.Given as goal
 
-abbrev pub invariant-loop-i : goal.invariant-loop-i
-invariant-loop-i l = (l.i ≤ l.n) × Rewritten (pivot l.j (pivot l.k (succ_of l.initial.rows))) l.n l.i l.initial.rows l.rows
-
-abbrev pub decreases-loop-i : goal.decreases-loop-i
-decreases-loop-i l = l.n - l.i
+abbrev pub invariant-loop-x : goal.invariant-loop-x
+invariant-loop-x l = Rewritten (pivot l.j (pivot l.k (succ_of l.fn.rows))) l.n l.x-index l.initial.x-items l.x-items

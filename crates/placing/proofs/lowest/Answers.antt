@@ -1,49 +1,30 @@
--- `placing::lowest` meets its contract: each event that can be placed is left, or is not below those left. The measure is `left`, which gets smaller as a
--- number. Assumes nothing.
-use mathlib.Core.Path.{sym, ap, ◌∙◌, subst}
-use mathlib.Core.Bool.{false, false≢true}
-use native.Mathlib.Nat.{mod-eq_of_lt}
+-- `placing::lowest` meets its contract: each event that can be placed is left, or is not below those left. Assumes nothing.
+use mathlib.Core.Bool.{false≢true}
 use native.Mathlib.Omega.{arith}
-use Rattle.sets.specs.Mask.{remove}
-use Rattle.sets.proofs.MaskLaws.{remove_lt}
-use Rattle.placing.proofs.UntriedLaws.{Untried, untried_start, untried_lowest, untried_hit, untried_next, untried_end}
+use Rattle.placing.proofs.UntriedLaws.{untried_start, untried_lowest, untried_hit, untried_taken, untried_end}
 use Rattle.placing.proofs.lowest.Goals as goal
 
-pub loop-left-init : goal.loop-left-init
-loop-left-init c = untried_start (λ d f. f.fresh) c.rest-left.ensures
-
-pub offset_bounds-writers-v : goal.offset_bounds-writers-v
-offset_bounds-writers-v c = let w = untried_lowest c.loop-left.invariant c.lowest-v.ensures c.loop-left-test.true in omega (arith, w.2)
-
-pub bounds-writers-v : goal.bounds-writers-v
-bounds-writers-v c = let w = untried_lowest c.loop-left.invariant c.lowest-v.ensures c.loop-left-test.true in omega (arith, w.2)
+pub loop-v-init : goal.loop-v-init
+loop-v-init c = rw (c.into_iter-v-iterator.ensures.into_iter_gives, c.members-v-items.ensures) (untried_start (λ d f. f.fresh) c.rest.ensures)
 
 pub may-requires : goal.may-requires
-may-requires c = let w = untried_lowest c.loop-left.invariant c.lowest-v.ensures c.loop-left-test.true in (w.2, w.4)
+may-requires c = let k = c.in-Some.ensures.steps in let w = untried_lowest c.loop-v.invariant k.low k.some in (w.2, w.4)
 
 pub returns-then-may : goal.returns-then-may
 returns-then-may c =
-    let w = untried_lowest c.loop-left.invariant c.lowest-v.ensures c.loop-left-test.true in
-    record {
-      bound = omega (arith, w.1);
-      place = λ h. (w.3, w.2);
-      free = λ h. c.may.ensures.holds c.if-may.true;
-      none = λ d a b l q. false≢true (untried_hit c.loop-left.invariant c.lowest-v.ensures c.loop-left-test.true d a b l q);
-    }
+    let k = c.in-Some.ensures.steps in
+    let w = untried_lowest c.loop-v.invariant k.low k.some in (
+      w.1,
+      record {
+        bound = omega (arith, w.1);
+        place = λ h. (w.3, w.2);
+        free = λ h. c.may.ensures.holds c.if-may.true;
+        none = λ d a b l q. false≢true (untried_hit c.loop-v.invariant k.low k.some d a b l q);
+      },
+    )
 
-pub loop-left-smaller : goal.loop-left-smaller
-loop-left-smaller c =
-    let w = untried_lowest c.loop-left.invariant c.lowest-v.ensures c.loop-left-test.true in
-    let z = c.without-left.ensures ∙ ap (remove c.loop-left.left) (mod-eq_of_lt w.2) in
-    omega (arith, remove_lt c.loop-left.left c.lowest-v.result w.0, z)
-
-pub loop-left-preserved : goal.loop-left-preserved
-loop-left-preserved c =
-    let a = c.args in
-    let w = untried_lowest c.loop-left.invariant c.lowest-v.ensures c.loop-left-test.true in
-    let z = c.without-left.ensures ∙ ap (remove c.loop-left.left) (mod-eq_of_lt w.2) in
-    subst (Untried a.s a.m a.from _ _) (sym z)
-    (untried_next c.loop-left.invariant c.lowest-v.ensures c.loop-left-test.true (λ f. absurd (c.may.ensures.fails c.if-may.false f)))
+pub loop-v-preserved : goal.loop-v-preserved
+loop-v-preserved c = untried_taken c.loop-v.invariant c.in-Some.ensures.steps (λ f. absurd (c.may.ensures.fails c.if-may.false f))
 
 pub returns : goal.returns
 returns c =
@@ -51,5 +32,5 @@ returns c =
       bound = omega arith;
       place = λ h. absurd (omega (arith, h));
       free = λ h. absurd (omega (arith, h));
-      none = λ d a b l q. false≢true (untried_end c.loop-left.invariant c.loop-left-test.false d a b l q);
+      none = λ d a b l q. false≢true (untried_end c.loop-v.invariant c.in-None.ensures.steps.0 d a b l q);
     }

@@ -1,5 +1,4 @@
--- `placing::lowest` meets its contract: each event that can be placed is left, or is not below those left. The measure is `left`, which gets smaller as a
--- number. Assumes nothing.
+-- `placing::lowest` meets its contract: each event that can be placed is left, or is not below those left. Assumes nothing.
 use mathlib.Core.Bool.{false}
 use Prim.Native.Nat.{ℕ}
 use lib.ListN.{get_or}
@@ -7,8 +6,5 @@ use Rattle.placing.specs.Placing.{Free}
 use Rattle.placing.proofs.UntriedLaws.{Untried}
 use Rattle.placing.proofs.lowest.Given as goal
 
-abbrev pub invariant-loop-left : goal.invariant-loop-left
-invariant-loop-left l = Untried l.s l.m l.from (λ (d : ℕ). Free l.before l.bars (get_or l.writers d 0) l.s d) (λ (d : ℕ). false) l.left
-
-abbrev pub decreases-loop-left : goal.decreases-loop-left
-decreases-loop-left l = l.left
+abbrev pub invariant-loop-v : goal.invariant-loop-v
+invariant-loop-v l = Untried l.s l.m l.from (λ (d : ℕ). Free l.before l.bars (get_or l.writers d 0) l.s d) (λ (d : ℕ). false) l.v-iterator.left

@@ -1,5 +1,4 @@
--- `placing::next` meets its contract: each event that can be placed leads to a marked set, or is left. The measure is `left`, which gets smaller as a
--- number. Assumes nothing.
+-- `placing::next` meets its contract: each event that can be placed leads to a marked set, or is left. Assumes nothing.
 use Prim.Native.Nat.{ℕ, ◌%◌}
 use lib.ListN.{get_or}
 use Rattle.sets.specs.Mask.{slots}
@@ -7,8 +6,5 @@ use Rattle.placing.specs.Placing.{Free, is_seen}
 use Rattle.placing.proofs.UntriedLaws.{Untried}
 use Rattle.placing.proofs.next.Given as goal
 
-abbrev pub invariant-loop-left : goal.invariant-loop-left
-invariant-loop-left l = Untried l.s l.m l.from (λ (d : ℕ). Free l.before l.bars (get_or l.writers d 0) l.s d) (is_seen (l.k % slots) l.table l.s) l.left
-
-abbrev pub decreases-loop-left : goal.decreases-loop-left
-decreases-loop-left l = l.left
+abbrev pub invariant-loop-e : goal.invariant-loop-e
+invariant-loop-e l = Untried l.s l.m l.from (λ (d : ℕ). Free l.before l.bars (get_or l.writers d 0) l.s d) (is_seen (l.k % slots) l.table l.s) l.e-iterator.left

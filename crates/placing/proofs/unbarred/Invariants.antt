@@ -1,10 +1,6 @@
--- `placing::unbarred` meets its contract: `left` has the placed writers of which nothing is known yet. The measure is `left`, which gets
--- smaller as a number. Assumes nothing.
+-- `placing::unbarred` meets its contract: what is left has the placed writers of which nothing is known yet. Assumes nothing.
 use Rattle.placing.proofs.BarsLaws.{Left}
 use Rattle.placing.proofs.unbarred.Given as goal
 
-abbrev pub invariant-loop-left : goal.invariant-loop-left
-invariant-loop-left l = Left l.bars l.writers l.s l.v l.left
-
-abbrev pub decreases-loop-left : goal.decreases-loop-left
-decreases-loop-left l = l.left
+abbrev pub invariant-loop-w : goal.invariant-loop-w
+invariant-loop-w l = Left l.bars l.writers l.s l.v l.w-iterator.left

@@ -113,11 +113,11 @@ first_below p q n k few same =
 -- ---- as an Option
 
 module _ (p : ℕ → Bool) (n : ℕ) where
-  some_at : first_of p n < n → Some (first_of p n) ≡ first_some p n
+  pub some_at : first_of p n < n → Some (first_of p n) ≡ first_some p n
   unfolding first_some
   some_at h = sym (ap (λ (b : Bool). cond b (Some (first_of p n)) None) (lt-ltb (first_of p n) n h))
 
-  none_at : n ≤ first_of p n → None ≡ first_some p n
+  pub none_at : n ≤ first_of p n → None ≡ first_some p n
   unfolding first_some
   none_at h = sym (ap (λ (b : Bool). cond b (Some (first_of p n)) None) (le-ltb (first_of p n) n h))
 

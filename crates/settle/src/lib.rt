@@ -60,8 +60,8 @@ fn loose(t: &[u8; COLUMNS], succ: &[u32; SLOTS], e: usize, d: usize) -> bool
 fn near(a: Shape, b: Shape) -> bool
     ensures { result ≡ nearing a b }
 {
-    let x = std::num::wrapping_sub_u32(a.start as u32, b.start as u32 + b.width as u32);
-    let y = std::num::wrapping_sub_u32(b.start as u32, a.start as u32 + a.width as u32);
+    let x = (a.start as u32).wrapping_sub(b.start as u32 + b.width as u32);
+    let y = (b.start as u32).wrapping_sub(a.start as u32 + a.width as u32);
     let z = (a.kind as u32 | b.kind as u32) << 30;
     sets::has(x & y & z, 31)
 }

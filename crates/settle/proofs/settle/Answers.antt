@@ -1,5 +1,5 @@
 -- `settle::settle` meets its contract: no event before e has a partner, and `behind` has the events from e on. Assumes nothing.
-use Rattle.std.proofs.Common.{◌≡◌, ℕ, ◌+◌, ◌%◌, ◌<◌, min, false, sym, ap, ◌∙◌, subst, mod-eq_of_lt, arith, below_more}
+use Rattle.std.proofs.Common.{◌≡◌, ℕ, ◌+◌, ◌<◌, min, false, sym, ap, ◌∙◌, subst, mod-eq_of_lt, arith, below_more}
 use Rattle.sets.specs.Mask.{slots, full, Rest}
 use Rattle.answer.specs.declared.Settled.TheVariants.{Unsettled}
 use Rattle.settle.specs.Settle.{loose_in, settled_in}

@@ -63,11 +63,8 @@ fn side(t: &[u8; COLUMNS], keys: &[u32; ACCESSES], n: usize, b: usize, eq: &mut 
     ensures { eq.new ≡ side_in t.now (min n slots) (b % 2) eq.old }
 {
     let span = (least(n, SLOTS) + 3) / 4 * 8; // eight slots at a time; those beyond have no key
-    let mut left = writers(t, n, b);
-    while left != 0 {
-        let v = sets::lowest(left);
-        gains(keys, span, keys[2 * (v % SLOTS) + b % 2], v, eq);
-        left = sets::without(left, v);
+    for v in sets::members(writers(t, n, b)) {
+        gains(keys, span, keys[2 * v + b % 2], v, eq);
     }
 }
 

@@ -3,22 +3,28 @@
 --     first_found, first_none     what a loop answers            first_find                 as a search through a list
 --     first_or            of two tests together
 --     first_past, first_below     a loop that has come to the end or beyond; two tests that agree below n
---     Left, left_start, left_lowest, left_hit, left_next, left_end     a loop over the members of a set, for the first that passes
-use mathlib.Core.Path.{◌≡◌, sym, ap, ◌∙◌, subst}
+--     some_here, some_none     what a search answers as an Option     some_is, none_is     what its answer says
+--     some_from_range         of `find` over a range
+--     some_or, some_left, some_right     of two tests together, by what two searches answer
+--     Left, left_start, left_hit, left_next, left_end     a loop over the members of a set, for the first that passes
+use mathlib.Core.Path.{◌≡◌, refl, sym, ap, ◌∙◌, subst}
 use mathlib.Core.Bool.{Bool, true, false, cond}
 use mathlib.Core.Logic.{⊎_elim}
 use mathlib.Core.Option.{none, some}
 use Prim.Native.Nat.{ℕ, zero, suc, ◌^◌, ◌≤◌, ◌<◌, min}
 use native.Mathlib.Omega.{arith}
 use native.Mathlib.Decide.{dec_lt}
-use borrow.Author.Tests.{ltb-true, ltb-false}
+use borrow.Author.Tests.{ltb-true, ltb-false, lt-ltb, le-ltb}
 use lib.Dec.{ltb}
 use Rattle.basis.specs.Test.{◌and◌, ◌or◌, find, from}
 use Rattle.basis.proofs.BoolLaws.{and_holds, and_both, or_holds, or_fails, or_second, by_bool, not_both_ways, false_of}
 use Rattle.basis.proofs.FindLaws.{find_at, find_no}
+use Rattle.std.specs.Prelude.{Option, Some, None}
+use Rattle.std.specs.Option.{MatchOption}
 use Rattle.sets.specs.Mask.{slots, mem, Has, remove, Lowest}
+use Rattle.sets.specs.Members.{Taken}
 use Rattle.sets.proofs.MaskLaws.{mem_empty, mem_lt, remove_le, remove_old, remove_cases}
-use Rattle.cells.specs.First.{first_of, First}
+use Rattle.cells.specs.First.{first_of, first_some, First}
 
 module _ (p : ℕ → Bool) where
   pub first_unique : (n a b : ℕ) → First p n a → First p n b → a ≡ b
@@ -104,6 +110,80 @@ first_below p q n k few same =
       least = λ d h. sym (same d (omega arith)) ∙ f.least d (omega arith);
     })
 
+-- ---- as an Option
+
+module _ (p : ℕ → Bool) (n : ℕ) where
+  pub some_at : first_of p n < n → Some (first_of p n) ≡ first_some p n
+  unfolding first_some
+  some_at h = sym (ap (λ (b : Bool). cond b (Some (first_of p n)) None) (lt-ltb (first_of p n) n h))
+
+  pub none_at : n ≤ first_of p n → None ≡ first_some p n
+  unfolding first_some
+  none_at h = sym (ap (λ (b : Bool). cond b (Some (first_of p n)) None) (le-ltb (first_of p n) n h))
+
+  pub some_here : (j : ℕ) → j < n → ((d : ℕ) → d < j → p d ≡ false) → p j ≡ true → Some j ≡ first_some p n
+  some_here j h l y = let e = first_found p n j h l y in ap Some e ∙ some_at (omega arith)
+
+  pub some_none : ((d : ℕ) → d < n → p d ≡ false) → None ≡ first_some p n
+  some_none l = let e = first_none p n n (omega arith) (omega arith) l in none_at (omega arith)
+
+  pub some_is : (r : Option ℕ) (j : ℕ) → r ≡ first_some p n → r ≡ Some j → (j ≡ first_of p n) × (j < n)
+  unfolding first_some
+  some_is r j e f =
+      by_bool (ltb (first_of p n) n)
+      (λ y. let z = ltb-true (first_of p n) n y in let g : Some j ≡ Some (first_of p n) = sym f ∙ e ∙ ap (λ (b : Bool). cond b (Some (first_of p n)) None) y in let k : j ≡ first_of p n = cc in (k, omega arith))
+      (λ y. let g : Some j ≡ None = sym f ∙ e ∙ ap (λ (b : Bool). cond b (Some (first_of p n)) None) y in (cc))
+
+  pub none_is : (r : Option ℕ) → r ≡ first_some p n → r ≡ None → n ≤ first_of p n
+  unfolding first_some
+  none_is r e f =
+      by_bool (ltb (first_of p n) n)
+      (λ y. let g : None ≡ Some (first_of p n) = sym f ∙ e ∙ ap (λ (b : Bool). cond b (Some (first_of p n)) None) y in absurd (cc))
+      (λ y. ltb-false (first_of p n) n y)
+
+  pub some_from_range : (r : Option ℕ) (m : ℕ) (Yes No : ℕ → Type 0) → MatchOption r ((k : ℕ) → 0 ≤ k → k < m → No k) (λ (i : ℕ). (0 ≤ i) × (i < m) × Yes i × ((k : ℕ) → 0 ≤ k → k < i → No k))
+      → m ≡ n → ((i : ℕ) → i < n → Yes i → p i ≡ true) → ((i : ℕ) → i < n → No i → p i ≡ false) → r ≡ first_some p n
+  some_from_range (Some j) m Yes No f e good bad = let l : j < n = let k = f.1 in omega arith in some_here j l (λ d h. bad d (omega arith) (f.3 d (omega arith) h)) (good j l f.2)
+  some_from_range None m Yes No f e good bad = some_none (λ d h. bad d h (f d (omega arith) (omega arith)))
+
+-- of two tests together, of what two searches answer
+module _ (p q : ℕ → Bool) (n : ℕ) where
+  pub some_or : (a b : ℕ) → Some a ≡ first_some p n → Some b ≡ first_some q n → Some (min a b) ≡ first_some (λ (d : ℕ). p d or q d) n
+  some_or a b e f =
+      let x = some_is p n (Some a) a e refl in
+      let y = some_is q n (Some b) b f refl in
+      let z = first_or p q n in
+      let w : min a b ≡ first_of (λ (d : ℕ). p d or q d) n = omega arith in
+      ap Some w ∙ some_at (λ (d : ℕ). p d or q d) n (omega arith)
+
+  pub some_left : (r : Option ℕ) → r ≡ first_some p n → None ≡ first_some q n → r ≡ first_some (λ (d : ℕ). p d or q d) n
+  some_left None e f =
+      let x = none_is p n None e refl in
+      let y = none_is q n None f refl in
+      let z = first_or p q n in
+      none_at (λ (d : ℕ). p d or q d) n (omega arith)
+  some_left (Some a) e f =
+      let x = some_is p n (Some a) a e refl in
+      let y = none_is q n None f refl in
+      let k = (first_of_lem q n).within in
+      let z = first_or p q n in
+      let w : a ≡ first_of (λ (d : ℕ). p d or q d) n = omega arith in
+      ap Some w ∙ some_at (λ (d : ℕ). p d or q d) n (omega arith)
+
+  pub some_right : (r : Option ℕ) → r ≡ first_some q n → None ≡ first_some p n → r ≡ first_some (λ (d : ℕ). p d or q d) n
+  some_right None e f =
+      let x = none_is p n None f refl in
+      let y = none_is q n None e refl in
+      let z = first_or p q n in
+      none_at (λ (d : ℕ). p d or q d) n (omega arith)
+  some_right (Some a) e f =
+      let x = none_is p n None f refl in
+      let y = some_is q n (Some a) a e refl in
+      let k = (first_of_lem p n).within in
+      let z = first_or p q n in
+      let w : a ≡ first_of (λ (d : ℕ). p d or q d) n = omega arith in
+      ap Some w ∙ some_at (λ (d : ℕ). p d or q d) n (omega arith)
+
 -- ---- the members of a set
 
 -- left has the members of m of which nothing is known yet: those that are gone do not pass
@@ -116,27 +196,22 @@ pub left_start : (g : ℕ → Bool) (m : ℕ) → m < 2 ^ slots → Left g m m
 left_start g m l = record { width = l; of = λ d h. h; done = λ d h k. h }
 
 module _ {g : ℕ → Bool} {m left : ℕ} (have : Left g m left) where
-  pub left_lowest : (v : ℕ) → Lowest left v → (left ≡ 0 → ⊥) → Has left v × (v < slots)
-  left_lowest v low f = let h = low.member (omega (arith, f)) in (h, mem_lt slots left v have.width h)
-
   passed : (d : ℕ) → (mem m d and g d) ≡ true → Has left d
   passed d e = let w = and_both (mem m d) (g d) e in have.done d w.0 w.1
 
-  pub left_hit : (v : ℕ) → Lowest left v → (left ≡ 0 → ⊥) → g v ≡ true → v ≡ first_of (λ (d : ℕ). mem m d and g d) slots
-  left_hit v low f y =
-      let at = left_lowest v low f in
-      first_found (λ (d : ℕ). mem m d and g d) slots v at.1 (λ d l. false_of _ (λ e. not_both_ways (passed d e) (low.least d l)))
-      (and_holds (mem m v) (g v) (have.of v at.0) ∙ y)
+  module _ (v t : ℕ) (k : Taken left v t) where
+    pub left_hit : g v ≡ true → Some v ≡ first_some (λ (d : ℕ). mem m d and g d) slots
+    left_hit y =
+        some_here (λ (d : ℕ). mem m d and g d) slots v k.slot (λ d l. false_of _ (λ e. not_both_ways (passed d e) (k.low.least d l)))
+        (and_holds (mem m v) (g v) (have.of v k.member) ∙ y)
 
-  pub left_next : (v : ℕ) → g v ≡ false → Left g m (remove left v)
-  left_next v n =
-      record {
-        width = let q = remove_le left v in let l = have.width in omega arith;
-        of = λ d h. have.of d (remove_old left v d h);
-        done = λ d h k. ⊎_elim (λ p. absurd (not_both_ways k (ap g p ∙ n))) (λ r. r) (remove_cases left v d (have.done d h k));
-      }
+    pub left_next : g v ≡ false → Left g m t
+    left_next n = subst (Left g m) (sym k.rest)
+        (record {
+          width = let q = remove_le left v in let l = have.width in omega arith;
+          of = λ d h. have.of d (remove_old left v d h);
+          done = λ d h y. ⊎_elim (λ p. absurd (not_both_ways y (ap g p ∙ n))) (λ r. r) (remove_cases left v d (have.done d h y));
+        })
 
-  pub left_end : left ≡ 0 → slots ≡ first_of (λ (d : ℕ). mem m d and g d) slots
-  left_end z =
-      first_none (λ (d : ℕ). mem m d and g d) slots slots (omega arith) (omega arith)
-      (λ d l. false_of _ (λ e. not_both_ways (passed d e) (ap (λ (i : ℕ). mem i d) z ∙ mem_empty d)))
+  pub left_end : left ≡ 0 → None ≡ first_some (λ (d : ℕ). mem m d and g d) slots
+  left_end z = some_none (λ (d : ℕ). mem m d and g d) slots (λ d l. false_of _ (λ e. not_both_ways (passed d e) (ap (λ (i : ℕ). mem i d) z ∙ mem_empty d)))

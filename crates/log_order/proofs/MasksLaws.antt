@@ -1,7 +1,7 @@
 -- The laws of the private steps (specs/steps/Masks.antt): the tests by masks are the list's. Assumes nothing.
 --     stood_empty, stood_more, ranked_none, ranked_more     the numbers of the list, one by one
 --     bad_twice, bad_not, small_of, named_of                what a turn of `bad` tests, and what it says of the whole list
---     lacks_is, late_is, row_cross, crosses_yes, crosses_no, first_le     what `lacks`, `early` and `crosses` test; a first is within its bound
+--     lacks_is, late_is, crosses_is, crosses_no             what `lacks`, `early` and a turn of `barred` test
 --     early_said, early_none                                what `ordered` answers
 --     bar_yes, bar_no                                       what `barred` answers
 --     length_said, number_said, order_said                  what `check` answers
@@ -28,8 +28,9 @@ use Rattle.format.specs.declared.Row.{Row}
 use Rattle.sets.specs.Mask.{slots, mem, Has, Within, insert, full}
 use Rattle.sets.specs.Tells.{Tells}
 use Rattle.sets.proofs.MaskLaws.{mem_empty, mem_and, mem_or, mem_lt, mem_full, full_has, insert_cases, insert_old, insert_new}
-use Rattle.cells.specs.First.{first_of, First}
-use Rattle.cells.proofs.FirstLaws.{first_of_lem, first_find}
+use Rattle.std.specs.Prelude.{Option as Opt, Some, None}
+use Rattle.cells.specs.First.{first_of, first_some, First}
+use Rattle.cells.proofs.FirstLaws.{first_of_lem, first_find, first_found, first_past, some_is, none_is}
 use Rattle.tables.specs.Tables.{row_room, row_in}
 use Rattle.tables.proofs.TablesLaws.{reader_slot, writer_slot, row_at_lem}
 use Rattle.alike.specs.Ranges.{equals_in}
@@ -98,10 +99,11 @@ module _ (m : ℕ) (l : List ℕ) (j s : ℕ) (p : Stood l j s) (h : get_or l j 
   unfolding bad_at
   bad_not k = or_fails (non (ltb (get_or l j 0) m)) (stood l j (get_or l j 0)) (non_fails (ltb (get_or l j 0) m) (lt-ltb (get_or l j 0) m h)) ∙ sym same_place ∙ k
 
-pub named_of : (m : ℕ) (l : List ℕ) (r : ℕ) → m ≤ slots → length l ≡ m → r ≡ first_of (bad_at m l) (length l) → m ≤ r → Named m l
-named_of m l r h n e k =
+pub named_of : (m : ℕ) (l : List ℕ) (o : Opt ℕ) → m ≤ slots → length l ≡ m → o ≡ first_some (bad_at m l) (length l) → o ≡ None → Named m l
+named_of m l o h n e k =
     let f = first_of_lem (bad_at m l) (length l) in
-    record { few = h; long = n; numbers = λ i b. f.least i (omega (arith, e, k, b, n)) }
+    let z = none_is (bad_at m l) (length l) o e k in
+    record { few = h; long = n; numbers = λ i b. f.least i (omega (arith, z, b, n)) }
 
 pub small_of : {m : ℕ} {l : List ℕ} → Named m l → Small l
 small_of {m} {l} n i b = let g = good_range m l i (n.numbers i b) in let f = n.few in omega arith
@@ -131,57 +133,59 @@ late_is all pred earlier l j w e f =
     let i : get_or l j 0 % slots % slots ≡ get_or l j 0 % slots = omega arith in
     f ∙ ap (lacks (bit_and (get_or pred (get_or l j 0 % slots) 0) all)) (e ∙ ap (insert (get_or earlier (get_or l j 0 % slots) 0)) i)
 
-module _ (q : List ℕ) (j : ℕ) (h : j < row_room) (r : Row) (p : r ≡ row_in q (j % row_room)) (t eq succ pred earlier : List ℕ) (v : ℕ)
-    (e : v ≡ first_of (cross_in t eq succ pred earlier r) slots) where
-  pub row_cross : v ≡ first_of (cross_in t eq succ pred earlier (row_in q j)) slots
-  row_cross = e ∙ ap (λ (x : Row). first_of (cross_in t eq succ pred earlier x) slots) (row_at_lem q j h r p)
+module _ (q : List ℕ) (j : ℕ) (h : j < row_room) (r : Row) (p : r ≡ row_in q (j % row_room)) (t eq succ pred earlier : List ℕ) (o : Opt ℕ)
+    (e : o ≡ first_some (cross_in t eq succ pred earlier r) slots) where
+  row_cross : o ≡ first_some (cross_in t eq succ pred earlier (row_in q j)) slots
+  row_cross = e ∙ ap (λ (x : Row). first_some (cross_in t eq succ pred earlier x) slots) (row_at_lem q j h r p)
 
-  pub crosses_yes : v < slots → crosses_in t eq succ pred earlier q j ≡ true
-  unfolding crosses_in
-  crosses_yes l = let z = row_cross in lt-ltb (first_of (cross_in t eq succ pred earlier (row_in q j)) slots) slots (omega arith)
+  pub crosses_is : (v : ℕ) → o ≡ Some v → (v ≡ first_of (cross_in t eq succ pred earlier (row_in q j)) slots) × (v < slots)
+  crosses_is v l = some_is (cross_in t eq succ pred earlier (row_in q j)) slots o v row_cross l
 
-  pub crosses_no : slots ≤ v → crosses_in t eq succ pred earlier q j ≡ false
+  pub crosses_no : o ≡ None → crosses_in t eq succ pred earlier q j ≡ false
   unfolding crosses_in
-  crosses_no l = let z = row_cross in le-ltb (first_of (cross_in t eq succ pred earlier (row_in q j)) slots) slots (omega arith)
+  crosses_no l = le-ltb (first_of (cross_in t eq succ pred earlier (row_in q j)) slots) slots (none_is (cross_in t eq succ pred earlier (row_in q j)) slots o row_cross l)
 
 -- ---- what is found first
 
-pub first_le : (p : ℕ → Bool) (n v : ℕ) → v ≡ first_of p n → v ≤ n
-first_le p n v e = let f = (first_of_lem p n).within in omega arith
+module _ (p : ℕ → Bool) (n : ℕ) (o : Opt ℕ) (e : o ≡ first_some p n) where
+  found_at : (i : ℕ) → o ≡ Some i → find p (from 0 n) ≡ some i
+  found_at i h =
+      let k = some_is p n o i e h in
+      first_find p n ∙ ap (λ (b : Bool). cond b (some (first_of p n)) none) (lt-ltb (first_of p n) n (omega (arith, k.0, k.1))) ∙ ap some (sym k.0)
 
-found_at : (p : ℕ → Bool) (n i : ℕ) → i ≡ first_of p n → i < n → find p (from 0 n) ≡ some i
-found_at p n i e h =
-    first_find p n ∙ ap (λ (b : Bool). cond b (some (first_of p n)) none) (lt-ltb (first_of p n) n (omega (arith, e, h))) ∙ ap some (sym e)
-
-found_past : (p : ℕ → Bool) (n i : ℕ) → i ≡ first_of p n → n ≤ i → find p (from 0 n) ≡ none
-found_past p n i e h = first_find p n ∙ ap (λ (b : Bool). cond b (some (first_of p n)) none) (le-ltb (first_of p n) n (omega (arith, e, h)))
+  found_past : o ≡ None → find p (from 0 n) ≡ none
+  found_past h = first_find p n ∙ ap (λ (b : Bool). cond b (some (first_of p n)) none) (le-ltb (first_of p n) n (none_is p n o e h))
 
 -- ---- barred
 
-module _ (m : ℕ) (t succ pred earlier q : List ℕ) (n : ℕ) (eq : List ℕ) (alike : eq ≡ equals_in t m) (j : ℕ) (is : j ≡ first_of (crosses_in t eq succ pred earlier q) n) where
+module _ (m : ℕ) (t succ pred earlier q : List ℕ) (n : ℕ) (eq : List ℕ) (alike : eq ≡ equals_in t m) where
   abbrev named : List ℕ → ℕ → Fault
   named k i = Barred (row_in q i).reader (row_in q i).writer (first_of (cross_in t k succ pred earlier (row_in q i)) slots) (row_in q i).address
 
   -- what the first says is said by the sets of equal ranges
-  by_sets : said_of (cond (ltb j n) (some (named eq j)) none) ≡ said_of (bar_in m t succ pred earlier q n)
+  by_sets : (j : ℕ) → j ≡ first_of (crosses_in t eq succ pred earlier q) n → said_of (cond (ltb j n) (some (named eq j)) none) ≡ said_of (bar_in m t succ pred earlier q n)
   unfolding bar_in
-  by_sets =
+  by_sets j is =
       ap (λ (i : ℕ). said_of (cond (ltb i n) (some (named eq i)) none)) is
       ∙ ap (λ (k : List ℕ). let i = first_of (crosses_in t k succ pred earlier q) n in said_of (cond (ltb i n) (some (named k i)) none)) alike
 
-  pub bar_yes : n ≤ row_room → j < n → (r : Row) → r ≡ row_in q (j % row_room) → (v : ℕ) → v ≡ first_of (cross_in t eq succ pred earlier r) slots
+  pub bar_yes : n ≤ row_room → (j : ℕ) → j < n → ((d : ℕ) → d < j → crosses_in t eq succ pred earlier q d ≡ false) → (r : Row) → r ≡ row_in q (j % row_room)
+      → (v : ℕ) → (v ≡ first_of (cross_in t eq succ pred earlier (row_in q j)) slots) × (v < slots)
       → Rejected (Barred r.reader r.writer v r.address) ≡ said_of (bar_in m t succ pred earlier q n)
-  unfolding said_of
-  bar_yes room h r p v e =
+  unfolding said_of crosses_in
+  bar_yes room j h before r p v e =
+      let yes : crosses_in t eq succ pred earlier q j ≡ true = let f = e.0 in let g = e.1 in lt-ltb (first_of (cross_in t eq succ pred earlier (row_in q j)) slots) slots (omega arith) in
       let at = row_at_lem q j (omega arith) r p in
-      ap (λ (x : ℕ). Rejected (Barred r.reader r.writer x r.address)) e
-      ∙ ap (λ (x : Row). Rejected (Barred x.reader x.writer (first_of (cross_in t eq succ pred earlier x) slots) x.address)) at
+      ap (λ (x : Row). Rejected (Barred x.reader x.writer v x.address)) at
+      ∙ ap (λ (x : ℕ). Rejected (Barred (row_in q j).reader (row_in q j).writer x (row_in q j).address)) e.0
       ∙ sym (ap (λ (b : Bool). said_of (cond b (some (named eq j)) none)) (lt-ltb j n h))
-      ∙ by_sets
+      ∙ by_sets j (first_found (crosses_in t eq succ pred earlier q) n j h before yes)
 
-  pub bar_no : n ≤ j → Accepted ≡ said_of (bar_in m t succ pred earlier q n)
+  pub bar_no : ((d : ℕ) → d < n → crosses_in t eq succ pred earlier q d ≡ false) → Accepted ≡ said_of (bar_in m t succ pred earlier q n)
   unfolding said_of
-  bar_no h = sym (ap (λ (b : Bool). said_of (cond b (some (named eq j)) none)) (le-ltb j n h)) ∙ by_sets
+  bar_no before =
+      sym (ap (λ (b : Bool). said_of (cond b (some (named eq n)) none)) (le-ltb n n (omega arith)))
+      ∙ by_sets n (first_past (crosses_in t eq succ pred earlier q) n n (omega arith) before)
 
 -- ---- a list that names each event once
 
@@ -295,10 +299,10 @@ module _ {m : ℕ} {l : List ℕ} (named-once : Named m l) (earlier : List ℕ) 
   same_room : min m slots ≡ m
   same_room = let f = named-once.few in omega arith
 
-  module _ (all : ℕ) (every : all ≡ full (min m slots)) (i : ℕ) (is : i ≡ first_of (late_in all pred earlier l) (length l)) where
+  module _ (all : ℕ) (every : all ≡ full (min m slots)) (late : Opt ℕ) (is : late ≡ first_some (late_in all pred earlier l) (length l)) where
     -- the first that is late is the first that is early
-    is_late : i ≡ first_of (late_in (full m) pred earlier l) (length l)
-    is_late = is ∙ ap (λ (a : ℕ). first_of (late_in a pred earlier l) (length l)) (every ∙ ap full same_room)
+    is_late : late ≡ first_some (late_in (full m) pred earlier l) (length l)
+    is_late = is ∙ ap (λ (a : ℕ). first_some (late_in a pred earlier l) (length l)) (every ∙ ap full same_room)
 
     same_find : find (late_in (full m) pred earlier l) (from 0 (length l)) ≡ find (early_at (trial_in m t succ pred q n) l) (from 0 (length l))
     same_find = find_same _ _ (from 0 (length l)) (λ d k. late_same d (let z = from_elim (length l) 0 d k in omega (arith, z.1)))
@@ -306,16 +310,16 @@ module _ {m : ℕ} {l : List ℕ} (named-once : Named m l) (earlier : List ℕ) 
     abbrev then : Option ℕ → Said
     then o = said_of (mapped (λ (k : ℕ). TooEarly k) o else bar_fault (trial_in m t succ pred q n) l)
 
-    pub early_said : i < length l → Rejected (TooEarly i) ≡ said_of (early_fault (trial_in m t succ pred q n) l else bar_fault (trial_in m t succ pred q n) l)
+    pub early_said : (i : ℕ) → late ≡ Some i → Rejected (TooEarly i) ≡ said_of (early_fault (trial_in m t succ pred q n) l else bar_fault (trial_in m t succ pred q n) l)
     unfolding early_fault mapped ◌else◌ said_of
-    early_said h = sym (ap then (sym same_find ∙ found_at _ (length l) i is_late h))
+    early_said i h = sym (ap then (sym same_find ∙ found_at _ (length l) late is_late i h))
 
-    pub early_none : length l ≤ i → {r : Said} → r ≡ said_of (bar_in (min m slots) t succ pred earlier q n)
+    pub early_none : late ≡ None → {r : Said} → r ≡ said_of (bar_in (min m slots) t succ pred earlier q n)
         → r ≡ said_of (early_fault (trial_in m t succ pred q n) l else bar_fault (trial_in m t succ pred q n) l)
     unfolding early_fault mapped ◌else◌
     early_none h e =
         e ∙ ap (λ (k : ℕ). said_of (bar_in k t succ pred earlier q n)) same_room ∙ ap said_of bar_same
-        ∙ sym (ap then (sym same_find ∙ found_past _ (length l) i is_late h))
+        ∙ sym (ap then (sym same_find ∙ found_past _ (length l) late is_late h))
 
 -- ---- check
 
@@ -330,15 +334,15 @@ module _ (m : ℕ) (t succ pred q : List ℕ) (n : ℕ) (l : List ℕ) where
   unfolding list_fault length_fault ◌else◌ said_of
   length_said h = sym (ap (λ (b : Bool). behind (cond b none (some (WrongLength (min (length l) longest))))) (ne_eqb (length l) m h))
 
-  module _ (long : length l ≡ m) (i : ℕ) (is : i ≡ first_of (bad_at m l) (length l)) where
+  module _ (long : length l ≡ m) (bad : Opt ℕ) (is : bad ≡ first_some (bad_at m l) (length l)) where
     right_length : said_of (number_fault (trial_in m t succ pred q n) l else early_fault (trial_in m t succ pred q n) l else bar_fault (trial_in m t succ pred q n) l) ≡ said_of (list_fault (trial_in m t succ pred q n) l)
     unfolding list_fault length_fault ◌else◌
     right_length = sym (ap (λ (b : Bool). behind (cond b none (some (WrongLength (min (length l) longest))))) (eq-eqb (length l) m long))
 
-    pub number_said : i < m → Rejected (BadNumber i) ≡ said_of (list_fault (trial_in m t succ pred q n) l)
+    pub number_said : (i : ℕ) → bad ≡ Some i → Rejected (BadNumber i) ≡ said_of (list_fault (trial_in m t succ pred q n) l)
     unfolding number_fault mapped ◌else◌ said_of
-    number_said h = sym (ap (λ (o : Option ℕ). rest (mapped (λ (k : ℕ). BadNumber k) o)) (found_at (bad_at m l) (length l) i is (omega (arith, long, h)))) ∙ right_length
+    number_said i h = sym (ap (λ (o : Option ℕ). rest (mapped (λ (k : ℕ). BadNumber k) o)) (found_at (bad_at m l) (length l) bad is i h)) ∙ right_length
 
-    pub order_said : m ≤ i → {r : Said} → r ≡ said_of (early_fault (trial_in m t succ pred q n) l else bar_fault (trial_in m t succ pred q n) l) → r ≡ said_of (list_fault (trial_in m t succ pred q n) l)
+    pub order_said : bad ≡ None → {r : Said} → r ≡ said_of (early_fault (trial_in m t succ pred q n) l else bar_fault (trial_in m t succ pred q n) l) → r ≡ said_of (list_fault (trial_in m t succ pred q n) l)
     unfolding number_fault mapped ◌else◌
-    order_said h e = e ∙ sym (ap (λ (o : Option ℕ). rest (mapped (λ (k : ℕ). BadNumber k) o)) (found_past (bad_at m l) (length l) i is (omega (arith, long, h)))) ∙ right_length
+    order_said h e = e ∙ sym (ap (λ (o : Option ℕ). rest (mapped (λ (k : ℕ). BadNumber k) o)) (found_past (bad_at m l) (length l) bad is h)) ∙ right_length

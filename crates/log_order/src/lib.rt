@@ -1,22 +1,22 @@
-// A lent list of event numbers, held against the tables: its first fault, or that there is none (02 §5). It knows nothing of sheets' bytes.
+// A lent list of event numbers, held against the tables: its first fault, or that there is none. It knows nothing of sheets' bytes.
 // No public function has a `requires`: events count up to the slots, rows up to those that have a place.
 #![tactic(auto)]
 
 ghost use Rattle.std.specs.Prelude.{◌≡◌, ℕ, ◌%◌, ◌≤◌, min, length, get_or};
 ghost use Rattle.basis.specs.Test.{◌and◌, ◌else◌};
 ghost use Rattle.sets.specs.Mask.{slots, mem};
-ghost use Rattle.cells.specs.First.{first_of};
+ghost use Rattle.cells.specs.First.{first_some};
 ghost use Rattle.tables.specs.Tables.{row_room};
 ghost use Rattle.log_order.specs.Listed.{bad_at, early_fault, bar_fault, list_fault, said_of};
 ghost use Rattle.log_order.specs.Trial.{trial_in};
-ghost use Rattle.log_order.specs.steps.Masks.{Small, Ranked, Named, lacks, late_in, cross_in, crosses_in, bar_in};
+ghost use Rattle.log_order.specs.steps.Masks.{Small, Ranked, Named, lacks, late_in, cross_in, bar_in};
 
 use format::Row;
 use sets::{SLOTS, least};
 use tables::{ACCESSES, COLUMNS, ROW_CELLS, ROWS};
 
 // What 32 bits hold at most.
-const LONGEST: usize = 4294967295;
+const LONGEST: usize = u32::MAX as usize;
 
 // What is wrong with a list. A place is an index in the list.
 #[derive(Clone, Copy)]
@@ -37,26 +37,23 @@ pub enum Said {
     Rejected(Fault),
 }
 
-// The first place with a number out of range or repeated; the length where there is none, and so below.
-fn bad(m: usize, list: &[u8]) -> usize
+// The first place with a number out of range or repeated.
+fn bad(m: usize, list: &[u8]) -> Option<usize>
     requires { m ≤ slots }
-    ensures { result ≡ first_of (bad_at m list.now) (length list.now) }
+    ensures { result ≡ first_some (bad_at m list.now) (length list.now) }
 {
-    let n = list.len();
     let mut s = 0;
-    let mut j: usize = 0;
-    while j < n {
+    for j in 0..list.len() {
         let x = list[j] as usize;
         if m <= x {
-            return j;
+            return Some(j);
         }
         if sets::has(s, x) {
-            return j;
+            return Some(j);
         }
         s = sets::with(s, x);
-        j += 1;
     }
-    n
+    None
 }
 
 // For each number of the list the set of those that stand before it.
@@ -81,35 +78,28 @@ fn lacks(a: u32, b: u32) -> bool
 }
 
 // The first place whose event comes before one of all that happens before it.
-fn early(all: u32, pred: &[u32; SLOTS], list: &[u8], earlier: &[u32; SLOTS]) -> usize
-    ensures { result ≡ first_of (late_in all pred.now earlier.now list.now) (length list.now) }
+fn early(all: u32, pred: &[u32; SLOTS], list: &[u8], earlier: &[u32; SLOTS]) -> Option<usize>
+    ensures { result ≡ first_some (late_in all pred.now earlier.now list.now) (length list.now) }
 {
-    let n = list.len();
-    let mut j: usize = 0;
-    while j < n {
+    for j in 0..list.len() {
         let x = list[j] as usize % SLOTS;
         if lacks(pred[x] & all, sets::with(earlier[x], x)) {
-            return j;
+            return Some(j);
         }
-        j += 1;
     }
-    n
+    None
 }
 
-// The least member of a set that w stands before; 32 where there is none.
-fn behind(earlier: &[u32; SLOTS], m: u32, w: usize) -> usize
-    ensures { result ≡ first_of (λ (v : ℕ). mem m v and mem (get_or earlier.now v 0) (w % slots)) slots }
+// The least member of a set that w stands before.
+fn behind(earlier: &[u32; SLOTS], m: u32, w: usize) -> Option<usize>
+    ensures { result ≡ first_some (λ (v : ℕ). mem m v and mem (get_or earlier.now v 0) (w % slots)) slots }
 {
-    let mut left = m;
-    while left != 0 {
-        let v = sets::lowest(left);
-        let hit = sets::has(earlier[v % SLOTS], w);
-        if hit {
-            return v;
+    for v in sets::members(m) {
+        if sets::has(earlier[v], w) {
+            return Some(v);
         }
-        left = sets::without(left, v);
     }
-    SLOTS
+    None
 }
 
 // The least event that a row bars, and that stands after its writer and before its reader: what a row bars is mostly nothing.
@@ -120,36 +110,12 @@ fn cross(
     pred: &[u32; SLOTS],
     earlier: &[u32; SLOTS],
     r: Row,
-) -> usize
-    ensures { result ≡ first_of (cross_in t.now eq.now succ.now pred.now earlier.now r) slots }
+) -> Option<usize>
+    ensures { result ≡ first_some (cross_in t.now eq.now succ.now pred.now earlier.now r) slots }
 {
     let barred = bars::of_row(t, eq, succ, pred, r);
     let before = earlier[r.reader as usize % SLOTS];
     behind(earlier, barred & before, r.writer as usize)
-}
-
-// The first row that has one.
-fn crosses(
-    t: &[u8; COLUMNS],
-    eq: &[u32; ACCESSES],
-    succ: &[u32; SLOTS],
-    pred: &[u32; SLOTS],
-    earlier: &[u32; SLOTS],
-    q: &[u8; ROW_CELLS],
-    n: usize,
-) -> usize
-    ensures { result ≡ first_of (crosses_in t.now eq.now succ.now pred.now earlier.now q.now) (min n row_room) }
-{
-    let m = least(n, ROWS);
-    let mut j: usize = 0;
-    while j < m {
-        let v = cross(t, eq, succ, pred, earlier, rows::row(q, j));
-        if v < SLOTS {
-            return j;
-        }
-        j += 1;
-    }
-    m
 }
 
 // What the first row that has one says, and its lowest.
@@ -166,11 +132,11 @@ fn barred(
 {
     let mut eq = [0u32; ACCESSES];
     alike::equals(t, m, &mut eq);
-    let j = crosses(t, &eq, succ, pred, earlier, q, n);
-    if j < least(n, ROWS) {
+    for j in 0..least(n, ROWS) {
         let r = rows::row(q, j);
-        let v = cross(t, &eq, succ, pred, earlier, r);
-        return Said::Rejected(Fault::Barred(r.reader, r.writer, v as u8, r.address));
+        if let Some(v) = cross(t, &eq, succ, pred, earlier, r) {
+            return Said::Rejected(Fault::Barred(r.reader, r.writer, v as u8, r.address));
+        }
     }
     Said::Accepted
 }
@@ -190,8 +156,7 @@ fn ordered(
 {
     let mut earlier = [0u32; SLOTS];
     note(list, &mut earlier);
-    let i = early(sets::full(m), pred, list, &earlier);
-    if i < list.len() {
+    if let Some(i) = early(sets::full(m), pred, list, &earlier) {
         return Said::Rejected(Fault::TooEarly(i as u8));
     }
     barred(m, t, succ, pred, &earlier, q, n)
@@ -214,8 +179,7 @@ pub fn check(
     if length != m {
         return Said::Rejected(Fault::WrongLength(least(length, LONGEST) as u32));
     }
-    let i = bad(m, list);
-    if i < m {
+    if let Some(i) = bad(m, list) {
         return Said::Rejected(Fault::BadNumber(i as u8));
     }
     ordered(m, t, succ, pred, q, n, list)

@@ -6,37 +6,38 @@ ghost use Rattle.std.specs.Prelude.{◌≡◌, ◌%◌};
 ghost use Rattle.tables.specs.Tables.{row_room, row_in, seen_in, wrote_in, pair_room, pair_in};
 
 use format::{Pair, Row};
-use tables::{PAIR_CELLS, ROW_CELLS};
+use sets::SLOTS;
+use tables::{PAIR_CELLS, PAIRS, ROW_CELLS, ROWS};
 
 pub fn row(q: &[u8; ROW_CELLS], j: usize) -> Row
     ensures { result ≡ row_in q.now (j % row_room) }
 {
-    let i = j % 288;
+    let i = j % ROWS;
     Row {
-        reader: q[i] % 32,
-        address: q[288 + i],
-        writer: q[576 + i] % 32,
+        reader: q[i] % SLOTS as u8,
+        address: q[ROWS + i],
+        writer: q[2 * ROWS + i] % SLOTS as u8,
     }
 }
 
 pub fn seen(q: &[u8; ROW_CELLS], j: usize) -> u8
     ensures { result ≡ seen_in q.now (j % row_room) }
 {
-    q[864 + j % 288]
+    q[3 * ROWS + j % ROWS]
 }
 
 pub fn wrote(q: &[u8; ROW_CELLS], j: usize) -> u8
     ensures { result ≡ wrote_in q.now (j % row_room) }
 {
-    q[1152 + j % 288]
+    q[4 * ROWS + j % ROWS]
 }
 
 pub fn pair(p: &[u8; PAIR_CELLS], j: usize) -> Pair
     ensures { result ≡ pair_in p.now (j % pair_room) }
 {
-    let i = j % 32;
+    let i = j % PAIRS;
     Pair {
-        first: p[i] % 32,
-        second: p[32 + i] % 32,
+        first: p[i] % SLOTS as u8,
+        second: p[PAIRS + i] % SLOTS as u8,
     }
 }

@@ -1,5 +1,5 @@
 -- The laws of specs/Rules.antt, as the loops and returns use them. Assumes nothing.
---     unlike_yes, unlike_no, turned_is, over_yes, over_no     what a turn of a loop tests
+--     unlike_yes, unlike_no, turned_is, over_is, over_no     what a turn of a loop tests
 --     rule21_yes, rule21_no, .. rule24_yes, rule24_no         which is named
 use mathlib.Core.Path.{◌≡◌, sym, ap, ◌∙◌}
 use mathlib.Core.Bool.{true, false}
@@ -15,7 +15,9 @@ use Rattle.answer.specs.declared.Names.TheVariants.{Row as OfRow, Event as OfEve
 use Rattle.answer.specs.declared.Rule.TheVariants.{Kept, Breach}
 use Rattle.answer.proofs.RulesLaws.{named_yes, named_no}
 use Rattle.sets.specs.Mask.{slots, mem}
-use Rattle.cells.specs.First.{first_of}
+use Rattle.std.specs.Prelude.{Option, Some, None}
+use Rattle.cells.specs.First.{first_of, first_some}
+use Rattle.cells.proofs.FirstLaws.{first_found, first_past, some_is, none_is}
 use Rattle.tables.specs.Tables.{row_room, row_in, seen_in, wrote_in}
 use Rattle.tables.proofs.TablesLaws.{reader_slot, writer_slot, row_at_lem}
 use Rattle.rules.specs.Rules.{unlike_in, cyclic_in, turned_in, rule21_in, rule22_in, rule23_in, rule24_in, between_in, over_in}
@@ -39,17 +41,16 @@ module _ (q : List ℕ) (j : ℕ) (h : j < row_room) (r : Row) (p : r ≡ row_in
       ∙ ap (λ (x : ℕ). mem (get_or succ x 0) ((row_in q j).writer % slots)) (mod-eq_of_lt (reader_slot q j))
       ∙ ap (mem (get_or succ (row_in q j).reader 0)) (mod-eq_of_lt (writer_slot q j))
 
-  module _ (t succ pred : List ℕ) (v : ℕ) (e : v ≡ first_of (between_in t succ pred r) slots) where
-    at_row : v ≡ first_of (between_in t succ pred (row_in q j)) slots
-    at_row = e ∙ ap (λ (x : Row). first_of (between_in t succ pred x) slots) (row_at_lem q j h r p)
+  module _ (t succ pred : List ℕ) (o : Option ℕ) (e : o ≡ first_some (between_in t succ pred r) slots) where
+    at_row : o ≡ first_some (between_in t succ pred (row_in q j)) slots
+    at_row = e ∙ ap (λ (x : Row). first_some (between_in t succ pred x) slots) (row_at_lem q j h r p)
 
-    pub over_yes : v < slots → over_in t q succ pred j ≡ true
-    unfolding over_in
-    over_yes l = let z = at_row in lt-ltb (first_of (between_in t succ pred (row_in q j)) slots) slots (omega arith)
+    pub over_is : (v : ℕ) → o ≡ Some v → (v ≡ first_of (between_in t succ pred (row_in q j)) slots) × (v < slots)
+    over_is v l = some_is (between_in t succ pred (row_in q j)) slots o v at_row l
 
-    pub over_no : slots ≤ v → over_in t q succ pred j ≡ false
+    pub over_no : o ≡ None → over_in t q succ pred j ≡ false
     unfolding over_in
-    over_no l = let z = at_row in le-ltb (first_of (between_in t succ pred (row_in q j)) slots) slots (omega arith)
+    over_no l = le-ltb (first_of (between_in t succ pred (row_in q j)) slots) slots (none_is (between_in t succ pred (row_in q j)) slots o at_row l)
 
 -- ---- which is named
 
@@ -57,42 +58,50 @@ module _ (q : List ℕ) (n j : ℕ) (room : n ≤ row_room) (r : Row) (row : r �
   at_first : (k : ℕ) → j ≡ k → j < n → r ≡ row_in q k
   at_first k e h = row_at_lem q j (omega arith) r row ∙ ap (row_in q) e
 
-  pub rule21_yes : j ≡ first_of (unlike_in q) n → j < n → Breach 21 (OfRow r.reader r.writer r.address) ≡ rule21_in q n
+  pub rule21_yes : (o : Option ℕ) → o ≡ first_some (unlike_in q) n → o ≡ Some j → Breach 21 (OfRow r.reader r.writer r.address) ≡ rule21_in q n
   unfolding rule21_in
-  rule21_yes e h =
-      ap (λ (x : Row). Breach 21 (OfRow x.reader x.writer x.address)) (at_first (first_of (unlike_in q) n) e h) ∙ named_yes (first_of (unlike_in q) n) n _ (omega arith)
+  rule21_yes o f g =
+      let k = some_is (unlike_in q) n o j f g in
+      ap (λ (x : Row). Breach 21 (OfRow x.reader x.writer x.address)) (at_first (first_of (unlike_in q) n) k.0 k.1)
+      ∙ named_yes (first_of (unlike_in q) n) n _ (omega arith)
 
-  pub rule23_yes : (succ : List ℕ) → j ≡ first_of (turned_in q succ) n → j < n → Breach 23 (OfRow r.reader r.writer r.address) ≡ rule23_in q n succ
+  pub rule23_yes : (succ : List ℕ) (o : Option ℕ) → o ≡ first_some (turned_in q succ) n → o ≡ Some j → Breach 23 (OfRow r.reader r.writer r.address) ≡ rule23_in q n succ
   unfolding rule23_in
-  rule23_yes succ e h =
-      ap (λ (x : Row). Breach 23 (OfRow x.reader x.writer x.address)) (at_first (first_of (turned_in q succ) n) e h)
+  rule23_yes succ o f g =
+      let k = some_is (turned_in q succ) n o j f g in
+      ap (λ (x : Row). Breach 23 (OfRow x.reader x.writer x.address)) (at_first (first_of (turned_in q succ) n) k.0 k.1)
       ∙ named_yes (first_of (turned_in q succ) n) n _ (omega arith)
 
-  pub rule24_yes : (t succ pred : List ℕ) (v : ℕ) → v ≡ first_of (between_in t succ pred r) slots → j ≡ first_of (over_in t q succ pred) n → j < n
+  pub rule24_yes : (t succ pred : List ℕ) (v : ℕ) → j < n → ((d : ℕ) → d < j → over_in t q succ pred d ≡ false) → (v ≡ first_of (between_in t succ pred (row_in q j)) slots) × (v < slots)
       → Breach 24 (Between r.reader r.writer v r.address) ≡ rule24_in t q n succ pred
-  unfolding rule24_in
-  rule24_yes t succ pred v f e h =
-      ap (λ (x : ℕ). Breach 24 (Between r.reader r.writer x r.address)) f
-      ∙ ap (λ (x : Row). Breach 24 (Between x.reader x.writer (first_of (between_in t succ pred x) slots) x.address)) (at_first (first_of (over_in t q succ pred) n) e h)
+  unfolding rule24_in over_in
+  rule24_yes t succ pred v h before f =
+      let yes : over_in t q succ pred j ≡ true = let a = f.0 in let b = f.1 in lt-ltb (first_of (between_in t succ pred (row_in q j)) slots) slots (omega arith) in
+      let e : j ≡ first_of (over_in t q succ pred) n = first_found (over_in t q succ pred) n j h before yes in
+      ap (λ (x : ℕ). Breach 24 (Between r.reader r.writer x r.address)) f.0
+      ∙ ap (λ (x : Row). Breach 24 (Between x.reader x.writer (first_of (between_in t succ pred (row_in q j)) slots) x.address)) (row_at_lem q j (omega arith) r row)
+      ∙ ap (λ (k : ℕ). Breach 24 (Between (row_in q k).reader (row_in q k).writer (first_of (between_in t succ pred (row_in q k)) slots) (row_in q k).address)) e
       ∙ named_yes (first_of (over_in t q succ pred) n) n _ (omega arith)
 
-module _ (n j : ℕ) (l : n ≤ j) where
-  pub rule21_no : (q : List ℕ) → j ≡ first_of (unlike_in q) n → Kept ≡ rule21_in q n
+module _ (n : ℕ) (o : Option ℕ) (l : o ≡ None) where
+  pub rule21_no : (q : List ℕ) → o ≡ first_some (unlike_in q) n → Kept ≡ rule21_in q n
   unfolding rule21_in
-  rule21_no q e = named_no (first_of (unlike_in q) n) n _ (omega arith)
+  rule21_no q e = named_no (first_of (unlike_in q) n) n _ (none_is (unlike_in q) n o e l)
 
-  pub rule22_no : (succ : List ℕ) → j ≡ first_of (cyclic_in succ) n → Kept ≡ rule22_in succ n
+  pub rule22_no : (succ : List ℕ) → o ≡ first_some (cyclic_in succ) n → Kept ≡ rule22_in succ n
   unfolding rule22_in
-  rule22_no succ e = named_no (first_of (cyclic_in succ) n) n _ (omega arith)
+  rule22_no succ e = named_no (first_of (cyclic_in succ) n) n _ (none_is (cyclic_in succ) n o e l)
 
-  pub rule23_no : (q succ : List ℕ) → j ≡ first_of (turned_in q succ) n → Kept ≡ rule23_in q n succ
+  pub rule23_no : (q succ : List ℕ) → o ≡ first_some (turned_in q succ) n → Kept ≡ rule23_in q n succ
   unfolding rule23_in
-  rule23_no q succ e = named_no (first_of (turned_in q succ) n) n _ (omega arith)
+  rule23_no q succ e = named_no (first_of (turned_in q succ) n) n _ (none_is (turned_in q succ) n o e l)
 
-  pub rule24_no : (t q succ pred : List ℕ) → j ≡ first_of (over_in t q succ pred) n → Kept ≡ rule24_in t q n succ pred
-  unfolding rule24_in
-  rule24_no t q succ pred e = named_no (first_of (over_in t q succ pred) n) n _ (omega arith)
+pub rule24_no : (t q succ pred : List ℕ) (n : ℕ) → ((d : ℕ) → d < n → over_in t q succ pred d ≡ false) → Kept ≡ rule24_in t q n succ pred
+unfolding rule24_in
+rule24_no t q succ pred n before = let e = first_past (over_in t q succ pred) n n (omega arith) before in named_no (first_of (over_in t q succ pred) n) n _ (omega arith)
 
-pub rule22_yes : (succ : List ℕ) (n e : ℕ) → e ≡ first_of (cyclic_in succ) n → e < n → Breach 22 (OfEvent e) ≡ rule22_in succ n
+pub rule22_yes : (succ : List ℕ) (n e : ℕ) (o : Option ℕ) → o ≡ first_some (cyclic_in succ) n → o ≡ Some e → Breach 22 (OfEvent e) ≡ rule22_in succ n
 unfolding rule22_in
-rule22_yes succ n e f h = ap (λ (x : ℕ). Breach 22 (OfEvent x)) f ∙ named_yes (first_of (cyclic_in succ) n) n _ (omega arith)
+rule22_yes succ n e o f g =
+    let k = some_is (cyclic_in succ) n o e f g in
+    ap (λ (x : ℕ). Breach 22 (OfEvent x)) k.0 ∙ named_yes (first_of (cyclic_in succ) n) n _ (omega arith)

@@ -2,7 +2,7 @@
 --     differ_marks                 two bytes that differ
 --     rule21_kept                  what 21 finds where nothing was noticed
 --     by_sources                   25, by the masks that were filled
-use mathlib.Core.Path.{◌≡◌, ap, ◌∙◌}
+use mathlib.Core.Path.{◌≡◌, refl, ap, ◌∙◌}
 use mathlib.Core.Bool.{true}
 use mathlib.Core.List.{List}
 use Prim.Native.Nat.{ℕ, ◌+◌, ◌*◌, ◌%◌, ◌≤◌, ◌<◌}
@@ -11,7 +11,8 @@ use lib.Bits.{bit_and, bit_xor, xor_add_and, xor_self, and_le_l, and_le_r}
 use lib.ListN.{replicate}
 use Rattle.basis.proofs.BoolLaws.{false_of, not_both_ways}
 use Rattle.answer.specs.declared.Rule.TheVariants.{Kept}
-use Rattle.cells.proofs.FirstLaws.{first_past}
+use Rattle.std.specs.Prelude.{None}
+use Rattle.cells.proofs.FirstLaws.{some_none}
 use Rattle.tables.specs.Tables.{accesses, row_room, seen_in, wrote_in}
 use Rattle.torn.specs.Torn.{sources_in, named_in, rule25_in}
 use Rattle.torn.specs.steps.Noticed.{Marks}
@@ -36,7 +37,7 @@ differ_marks q j a b h p r =
 
 module _ (q : List ℕ) (n : ℕ) where
   pub rule21_kept : (Unlike q n → ⊥) → Kept ≡ rule21_in q n
-  rule21_kept never = rule21_no n n (omega arith) q (first_past (unlike_in q) n n (omega arith) (λ j h. false_of _ (λ y. never (record { at = j; inside = h; holds = y }))))
+  rule21_kept never = rule21_no n None refl q (some_none (unlike_in q) n (λ j h. false_of _ (λ y. never (record { at = j; inside = h; holds = y }))))
 
 -- ---- 25
 

@@ -5,10 +5,10 @@ ghost use Rattle.std.specs.Prelude.{◌≡◌, ℕ, ◌%◌, min};
 ghost use Rattle.basis.specs.Test.{◌and◌};
 ghost use Rattle.sets.specs.Tells.{Tells};
 ghost use Rattle.sets.specs.Mask.{slots, mem};
-ghost use Rattle.cells.specs.First.{first_of};
+ghost use Rattle.cells.specs.First.{first_some};
 ghost use Rattle.tables.specs.Tables.{row_room, writes_in};
 ghost use Rattle.torn.specs.Torn.{sources_in, rule25_in};
-ghost use Rattle.rules.specs.Rules.{unlike_in, cyclic_in, turned_in, between_in, over_in, rule21_in, rule22_in, rule23_in, rule24_in, rest_in, rule_in};
+ghost use Rattle.rules.specs.Rules.{unlike_in, cyclic_in, turned_in, between_in, rule21_in, rule22_in, rule23_in, rule24_in, rest_in, rule_in};
 ghost use Rattle.rules.specs.steps.Stirred.{Unlike};
 
 use answer::{Names, Rule};
@@ -18,50 +18,28 @@ use tables::{ACCESSES, COLUMNS, ROW_CELLS, ROWS};
 
 // ---- 21, 22, 23
 
-// The first row whose byte seen differs from the byte written; n where there is none, and so below. n counts up to the rows that have a place.
-fn unlike(q: &[u8; ROW_CELLS], n: usize) -> usize
-    ensures { result ≡ first_of (unlike_in q.now) (min n row_room) }
+// The first row whose byte seen differs from the byte written. n counts up to the rows that have a place, and so below.
+fn unlike(q: &[u8; ROW_CELLS], n: usize) -> Option<usize>
+    ensures { result ≡ first_some (unlike_in q.now) (min n row_room) }
 {
-    let m = least(n, ROWS);
-    let mut j: usize = 0;
-    while j < m {
-        if rows::seen(q, j) != rows::wrote(q, j) {
-            return j;
-        }
-        j += 1;
-    }
-    m
+    (0..least(n, ROWS)).find(|j| rows::seen(q, *j) != rows::wrote(q, *j))
 }
 
 // The first event that happens before itself. n counts up to the slots.
-fn cyclic(succ: &[u32; SLOTS], n: usize) -> usize
-    ensures { result ≡ first_of (cyclic_in succ.now) (min n slots) }
+fn cyclic(succ: &[u32; SLOTS], n: usize) -> Option<usize>
+    ensures { result ≡ first_some (cyclic_in succ.now) (min n slots) }
 {
-    let m = least(n, SLOTS);
-    let mut e: usize = 0;
-    while e < m {
-        if sets::has(succ[e], e) {
-            return e;
-        }
-        e += 1;
-    }
-    m
+    (0..least(n, SLOTS)).find(|e| sets::has(succ[*e], *e))
 }
 
 // The first row whose reader happens before its writer.
-fn turned(q: &[u8; ROW_CELLS], n: usize, succ: &[u32; SLOTS]) -> usize
-    ensures { result ≡ first_of (turned_in q.now succ.now) (min n row_room) }
+fn turned(q: &[u8; ROW_CELLS], n: usize, succ: &[u32; SLOTS]) -> Option<usize>
+    ensures { result ≡ first_some (turned_in q.now succ.now) (min n row_room) }
 {
-    let m = least(n, ROWS);
-    let mut j: usize = 0;
-    while j < m {
-        let r = rows::row(q, j);
-        if sets::has(succ[r.reader as usize % SLOTS], r.writer as usize) {
-            return j;
-        }
-        j += 1;
-    }
-    m
+    (0..least(n, ROWS)).find(|j| {
+        let r = rows::row(q, *j);
+        sets::has(succ[r.reader as usize % SLOTS], r.writer as usize)
+    })
 }
 
 // ---- 24
@@ -74,51 +52,25 @@ fn writes_byte(t: &[u8; COLUMNS], v: usize, a: u8) -> bool
     ranges::covers(b, a) & access::writes(b)
 }
 
-// The least member of a set that writes the flat byte; 32 where none does.
-fn writer_in(t: &[u8; COLUMNS], m: u32, a: u8) -> usize
-    ensures { result ≡ first_of (λ (v : ℕ). mem m v and writes_in t.now v a) slots }
+// The least member of a set that writes the flat byte.
+fn writer_in(t: &[u8; COLUMNS], m: u32, a: u8) -> Option<usize>
+    ensures { result ≡ first_some (λ (v : ℕ). mem m v and writes_in t.now v a) slots }
 {
-    let mut left = m;
-    while left != 0 {
-        let v = sets::lowest(left);
-        let hit = writes_byte(t, v, a);
-        if hit {
-            return v;
+    for v in sets::members(m) {
+        if writes_byte(t, v, a) {
+            return Some(v);
         }
-        left = sets::without(left, v);
     }
-    SLOTS
+    None
 }
 
 // The least event that writes the row's byte after its writer and before its reader: what lies between the two is mostly nothing.
-fn between(t: &[u8; COLUMNS], succ: &[u32; SLOTS], pred: &[u32; SLOTS], r: Row) -> usize
-    ensures { result ≡ first_of (between_in t.now succ.now pred.now r) slots }
+fn between(t: &[u8; COLUMNS], succ: &[u32; SLOTS], pred: &[u32; SLOTS], r: Row) -> Option<usize>
+    ensures { result ≡ first_some (between_in t.now succ.now pred.now r) slots }
 {
     let after = succ[r.writer as usize % SLOTS];
     let before = pred[r.reader as usize % SLOTS];
     writer_in(t, after & before, r.address)
-}
-
-// The first row that has one.
-fn over(
-    t: &[u8; COLUMNS],
-    q: &[u8; ROW_CELLS],
-    n: usize,
-    succ: &[u32; SLOTS],
-    pred: &[u32; SLOTS],
-) -> usize
-    ensures { result ≡ first_of (over_in t.now q.now succ.now pred.now) (min n row_room) }
-{
-    let m = least(n, ROWS);
-    let mut j: usize = 0;
-    while j < m {
-        let v = between(t, succ, pred, rows::row(q, j));
-        if v < SLOTS {
-            return j;
-        }
-        j += 1;
-    }
-    m
 }
 
 // ---- what may be amiss, noticed without a jump: most sheets break nothing
@@ -140,8 +92,7 @@ fn differ(q: &[u8; ROW_CELLS], n: usize) -> bool
 fn rule21(q: &[u8; ROW_CELLS], n: usize) -> Rule
     ensures { result ≡ rule21_in q.now (min n row_room) }
 {
-    let j = unlike(q, n);
-    if j < least(n, ROWS) {
+    if let Some(j) = unlike(q, n) {
         let r = rows::row(q, j);
         return Rule::Breach(21, Names::Row(r.reader, r.writer, r.address));
     }
@@ -151,8 +102,7 @@ fn rule21(q: &[u8; ROW_CELLS], n: usize) -> Rule
 fn rule22(succ: &[u32; SLOTS], n: usize) -> Rule
     ensures { result ≡ rule22_in succ.now (min n slots) }
 {
-    let e = cyclic(succ, n);
-    if e < least(n, SLOTS) {
+    if let Some(e) = cyclic(succ, n) {
         return Rule::Breach(22, Names::Event(e as u8));
     }
     Rule::Kept
@@ -161,8 +111,7 @@ fn rule22(succ: &[u32; SLOTS], n: usize) -> Rule
 fn rule23(q: &[u8; ROW_CELLS], n: usize, succ: &[u32; SLOTS]) -> Rule
     ensures { result ≡ rule23_in q.now (min n row_room) succ.now }
 {
-    let j = turned(q, n, succ);
-    if j < least(n, ROWS) {
+    if let Some(j) = turned(q, n, succ) {
         let r = rows::row(q, j);
         return Rule::Breach(23, Names::Row(r.reader, r.writer, r.address));
     }
@@ -178,11 +127,11 @@ fn rule24(
 ) -> Rule
     ensures { result ≡ rule24_in t.now q.now (min n row_room) succ.now pred.now }
 {
-    let j = over(t, q, n, succ, pred);
-    if j < least(n, ROWS) {
+    for j in 0..least(n, ROWS) {
         let r = rows::row(q, j);
-        let v = between(t, succ, pred, r);
-        return Rule::Breach(24, Names::Between(r.reader, r.writer, v as u8, r.address));
+        if let Some(v) = between(t, succ, pred, r) {
+            return Rule::Breach(24, Names::Between(r.reader, r.writer, v as u8, r.address));
+        }
     }
     Rule::Kept
 }

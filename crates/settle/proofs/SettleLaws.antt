@@ -3,18 +3,21 @@
 --     ahead_is                       the mask of those to try
 --     free_shut, free_open           a pair that happens-before settles, and another
 --     partner_start, partner_hit, partner_end     a loop over those to try
+--     partner_is, partner_no         what it answers
 --     settled_found, settled_none    what the search answers
-use Rattle.std.proofs.Common.{◌≡◌, ℕ, ◌+◌, ◌<◌, ◌≤◌, min, Bool, true, false, cond, ltb, List, get_or, sym, ap, ◌∙◌, arith, ltb-true, le-ltb, lt-ltb}
+use Rattle.std.proofs.Common.{◌≡◌, refl, mod-eq_of_lt, ◌%◌, ℕ, ◌+◌, ◌<◌, ◌≤◌, min, Bool, true, false, cond, ltb, List, get_or, sym, ap, ◌∙◌, arith, ltb-true, le-ltb, lt-ltb}
 use Rattle.basis.specs.Test.{◌and◌, ◌or◌, non}
 use Rattle.basis.proofs.BoolLaws.{and_holds, and_fails, and_both, non_holds, and_assoc, non_fails, bool_ext, false_of, not_both_ways}
 use Rattle.format.specs.declared.Shape.{Shape}
 use Rattle.format.specs.Shape.{writes, overlap, both_sc}
-use Rattle.sets.specs.Mask.{slots, mem, Lowest, Rest}
+use Rattle.sets.specs.Mask.{slots, mem, Rest}
 use Rattle.sets.proofs.MaskLaws.{lt_of_members, ext_all}
 use Rattle.answer.specs.declared.Settled.TheVariants.{Orderly, Unsettled}
-use Rattle.cells.specs.First.{first_of}
+use Rattle.std.specs.Prelude.{Option, Some, None}
+use Rattle.sets.specs.Members.{Taken}
+use Rattle.cells.specs.First.{first_of, first_some}
 use Rattle.cells.specs.Walk.{picked}
-use Rattle.cells.proofs.FirstLaws.{first_found, Left, left_start, left_lowest, left_hit, left_end, first_past, first_below}
+use Rattle.cells.proofs.FirstLaws.{first_found, Left, left_start, left_hit, left_end, first_past, first_below, some_is, none_is, some_at, none_at}
 use Rattle.cells.proofs.WalkLaws.{mem_picked}
 use Rattle.tables.proofs.TablesLaws.{overlap_left, overlap_right}
 use Rattle.settle.specs.Settle.{clashing, clash_in, open_in, partner_in, loose_in, settled_in}
@@ -85,17 +88,31 @@ module _ (t succ : List ℕ) (n e : ℕ) (few : n ≤ slots) {left : ℕ} (have 
   firsts : min (first_of (λ (d : ℕ). mem (picked n (ahead_in (get_or succ e 0) e)) d and free_in t succ e d) slots) n ≡ first_of (open_in t succ e) n
   firsts = first_below (λ (d : ℕ). mem (picked n (ahead_in (get_or succ e 0) e)) d and free_in t succ e d) (open_in t succ e) n slots few agree
 
-  pub partner_hit : (v : ℕ) → Lowest left v → (left ≡ 0 → ⊥) → free_in t succ e v ≡ true → v ≡ first_of (open_in t succ e) n
-  partner_hit v low f y =
-      let h = have.of v (left_lowest have v low f).0 in
+  pub partner_hit : (v rest : ℕ) → Taken left v rest → free_in t succ e v ≡ true → Some v ≡ first_some (open_in t succ e) n
+  partner_hit v rest k y =
+      let h = have.of v k.member in
       let l = ltb-true v n (and_both (ltb v n) (ahead_in (get_or succ e 0) e v) (sym (mem_picked n (ahead_in (get_or succ e 0) e) v) ∙ h)).0 in
-      let z : v ≡ min v n = omega arith in
-      z ∙ ap (λ (i : ℕ). min i n) (left_hit have v low f y) ∙ firsts
+      let z = (some_is (λ (d : ℕ). mem (picked n (ahead_in (get_or succ e 0) e)) d and free_in t succ e d) slots (Some v) v (left_hit have v rest k y) refl).0 in
+      let f = firsts in
+      let q : v ≡ first_of (open_in t succ e) n = omega arith in
+      ap Some q ∙ some_at (open_in t succ e) n (omega arith)
 
-  pub partner_end : left ≡ 0 → n ≡ first_of (open_in t succ e) n
+  pub partner_end : left ≡ 0 → None ≡ first_some (open_in t succ e) n
   partner_end z =
-      let y : n ≡ min slots n = omega arith in
-      y ∙ ap (λ (i : ℕ). min i n) (left_end have z) ∙ firsts
+      let y = none_is (λ (d : ℕ). mem (picked n (ahead_in (get_or succ e 0) e)) d and free_in t succ e d) slots None (left_end have z) refl in
+      let f = firsts in
+      none_at (open_in t succ e) n (omega arith)
+
+-- what the search for a partner says
+module _ (t succ : List ℕ) (n e : ℕ) (h : e < slots) (o : Option ℕ) (is : o ≡ first_some (open_in t succ (e % slots)) n) where
+  same_event : o ≡ first_some (open_in t succ e) n
+  same_event = is ∙ ap (λ (x : ℕ). first_some (open_in t succ x) n) (mod-eq_of_lt h)
+
+  pub partner_is : (d : ℕ) → o ≡ Some d → (d ≡ partner_in t succ n e) × (d < n)
+  partner_is d f = some_is (open_in t succ e) n o d same_event f
+
+  pub partner_no : o ≡ None → loose_in t succ n e ≡ false
+  partner_no f = le-ltb (partner_in t succ n e) n (none_is (open_in t succ e) n o same_event f)
 
 module _ (t succ : List ℕ) (n e : ℕ) (before : (d : ℕ) → d < e → loose_in t succ n d ≡ false) where
   pub settled_found : e < n → partner_in t succ n e < n → Unsettled e (partner_in t succ n e) ≡ settled_in t succ n

@@ -3,7 +3,7 @@
 
 ghost use Rattle.std.specs.Prelude.{◌≡◌, ◌+◌, ◌%◌, ◌≤◌, min, true};
 ghost use Rattle.sets.specs.Mask.{slots, Rest};
-ghost use Rattle.cells.specs.First.{first_of};
+ghost use Rattle.cells.specs.First.{first_some};
 ghost use Rattle.own.specs.Lone.{Lone};
 ghost use Rattle.settle.specs.Settle.{clashing, clash_in, open_in, settled_in};
 ghost use Rattle.settle.specs.steps.Ahead.{Except, free_in};
@@ -60,8 +60,8 @@ fn loose(t: &[u8; COLUMNS], succ: &[u32; SLOTS], e: usize, d: usize) -> bool
 fn near(a: Shape, b: Shape) -> bool
     ensures { result ≡ nearing a b }
 {
-    let x = std::num::wrapping_sub_u32(a.start as u32, b.start as u32 + b.width as u32);
-    let y = std::num::wrapping_sub_u32(b.start as u32, a.start as u32 + a.width as u32);
+    let x = (a.start as u32).wrapping_sub(b.start as u32 + b.width as u32);
+    let y = (b.start as u32).wrapping_sub(a.start as u32 + a.width as u32);
     let z = (a.kind as u32 | b.kind as u32) << 30;
     sets::has(x & y & z, 31)
 }
@@ -107,7 +107,7 @@ fn except(s: u32, row: u32) -> u32
     s & !row
 }
 
-// The lowest event below n that is unsettled with e; n where there is none. `behind` has the events behind e.
+// The lowest event below n that is unsettled with e. `behind` has the events behind e.
 fn partner(
     t: &[u8; COLUMNS],
     succ: &[u32; SLOTS],
@@ -115,21 +115,17 @@ fn partner(
     behind: u32,
     n: usize,
     e: usize,
-) -> usize
+) -> Option<usize>
     requires { (alone ≡ true → Lone t.now slots) × (n ≤ slots) × Rest 0 (e % slots + 1) n behind }
-    ensures { result ≡ first_of (open_in t.now succ.now (e % slots)) n }
+    ensures { result ≡ first_some (open_in t.now succ.now (e % slots)) n }
 {
     // those that e does not happen before
-    let mut left = except(behind, succ[e % SLOTS]);
-    while left != 0 {
-        let d = sets::lowest(left);
-        let hit = free(t, succ, alone, e, d);
-        if hit {
-            return d;
+    for d in sets::members(except(behind, succ[e % SLOTS])) {
+        if free(t, succ, alone, e, d) {
+            return Some(d);
         }
-        left = sets::without(left, d);
     }
-    n
+    None
 }
 
 // Orderly, or the lowest unsettled pair.
@@ -139,14 +135,11 @@ pub fn settle(t: &[u8; COLUMNS], succ: &[u32; SLOTS], n: usize) -> Settled
     let m = least(n, SLOTS);
     let alone = own::lone(t);
     let mut behind = sets::full(m);
-    let mut e: usize = 0;
-    while e < m {
+    for e in 0..m {
         behind = sets::without(behind, e);
-        let d = partner(t, succ, alone, behind, m, e);
-        if d < m {
+        if let Some(d) = partner(t, succ, alone, behind, m, e) {
             return Settled::Unsettled(e as u8, d as u8);
         }
-        e += 1;
     }
     Settled::Orderly
 }

@@ -31,7 +31,8 @@ use Rattle.sets.specs.Tells.{Tells}
 use Rattle.sets.proofs.MaskLaws.{mem_and, mem_or, mem_empty, insert_new, insert_cases, ext_all}
 use Rattle.cells.specs.Cells.{gaining}
 use Rattle.cells.specs.First.{first_of}
-use Rattle.cells.proofs.FirstLaws.{first_past}
+use Rattle.std.specs.Prelude.{None}
+use Rattle.cells.proofs.FirstLaws.{first_past, some_none}
 use Rattle.tables.specs.Tables.{accesses, row_room, shape_in, slot_in, writes_in, row_in}
 use Rattle.tables.proofs.TablesLaws.{reader_slot}
 use Rattle.own.specs.Lone.{Lone}
@@ -314,9 +315,9 @@ module _ (t succ pred : List ℕ) (far : ℕ) (l q : List ℕ) where
   pub clean_kept : (n m : ℕ) → n ≤ slots → m ≤ row_room → Telling t n far l → Clean t n succ pred far l q m → rest_in t n succ pred q m ≡ Kept
   unfolding rest_in rule25_in
   clean_kept n m few room have c =
-      let kept22 = rule22_no n n (omega arith) succ (first_past (cyclic_in succ) n n (omega arith) (λ e h. false_of _ (λ y. c.uncyclic (record { at = e; inside = omega arith; holds = y })))) in
-      let kept23 = rule23_no m m (omega arith) q succ (first_past (turned_in q succ) m m (omega arith) (λ j h. not_turned j (fine j h) (omega arith))) in
-      let kept24 = rule24_no m m (omega arith) t q succ pred (first_past (over_in t q succ pred) m m (omega arith) (λ j h. not_over j (fine j h) n have c.lone)) in
+      let kept22 = rule22_no n None refl succ (some_none (cyclic_in succ) n (λ e h. false_of _ (λ y. c.uncyclic (record { at = e; inside = omega arith; holds = y })))) in
+      let kept23 = rule23_no m None refl q succ (some_none (turned_in q succ) m (λ j h. not_turned j (fine j h) (omega arith))) in
+      let kept24 = rule24_no t q succ pred m (λ j h. not_over j (fine j h) n have c.lone) in
       let kept25 = not_doubled (sources_in t q m nothing) n few (λ d. (unmixed m c.still).single d.at d.inside d.holds) in
       sym (also_later kept22 (also_later kept23 (also_later kept24 kept25)))
     where

@@ -10,7 +10,7 @@ use native.Mathlib.Decide.{ℕ_discrete}
 use lib.Bits.{bit_or}
 use lib.Dec.{ltb}
 use lib.ListN.{set}
-use Rattle.basis.specs.Test.{◌and◌, ◌or◌}
+use Rattle.basis.specs.Test.{◌and◌}
 use Rattle.basis.proofs.BoolLaws.{amp_and, bar_or}
 use Rattle.format.specs.declared.Shape.{Shape}
 use Rattle.format.specs.Shape.{sc, writes}

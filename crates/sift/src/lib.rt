@@ -72,10 +72,10 @@ fn note(t: &[u8; COLUMNS], n: usize, by: &mut [u32]) -> Noted
         seconds = seconds | b.width;
     }
     Noted {
-        far: far,
-        sc: sc,
-        writers: writers,
-        seconds: seconds,
+        far,
+        sc,
+        writers,
+        seconds,
     }
 }
 
@@ -96,12 +96,8 @@ fn alikes(by: &[u32; SLOTS], sc: u32, eq: &mut [u32])
     requires { eq.old ≡ replicate slots 0 }
     ensures { Gained by.now sc 0 eq.new }
 {
-    let mut left = sc;
-    while left != 0 {
-        let v = sets::lowest(left);
-        let x = by[v % SLOTS];
-        gains(by, x, v, eq);
-        left = sets::without(left, v);
+    for v in sets::members(sc) {
+        gains(by, by[v], v, eq);
     }
 }
 
@@ -122,12 +118,9 @@ fn cover(bytes: &mut [u32; BYTES], k: usize, width: u8, x: u32)
 fn near(t: &[u8; COLUMNS], writers: u32, bytes: &mut [u32; BYTES])
     ensures { Near t.now writers 0 bytes.old bytes.new }
 {
-    let mut left = writers;
-    while left != 0 {
-        let v = sets::lowest(left);
+    for v in sets::members(writers) {
         let a = tables::shape(t, 2 * v);
         cover(bytes, a.start as usize % NEAR, a.width, sets::with(0, v));
-        left = sets::without(left, v);
     }
 }
 

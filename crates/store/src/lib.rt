@@ -7,6 +7,8 @@ ghost use Rattle.sets.specs.Mask.{slots};
 ghost use Rattle.tables.specs.Tables.{accesses, row_room, pair_room, putting, putting_row, putting_pair};
 
 use format::{Pair, Row, Shape};
+use sets::SLOTS;
+use tables::{ACCESSES, PAIRS, ROWS};
 
 // Writes a byte.
 fn put(bytes: &mut [u8], i: usize, b: u8)
@@ -20,35 +22,35 @@ fn put(bytes: &mut [u8], i: usize, b: u8)
 pub fn put_agent(t: &mut [u8], e: usize, agent: u8)
     ensures { t.new ≡ set t.old (e % slots) agent }
 {
-    put(t, e % 32, agent);
+    put(t, e % SLOTS, agent);
 }
 
 pub fn put_access(t: &mut [u8], k: usize, a: Shape)
     ensures { t.new ≡ putting t.old (k % accesses) a }
 {
-    let i = k % 64;
-    put(t, 32 + i, a.kind);
-    put(t, 96 + i, a.mode);
-    put(t, 160 + i, a.start);
-    put(t, 224 + i, a.width);
-    put(t, 288 + i, a.tear);
+    let i = k % ACCESSES;
+    put(t, SLOTS + i, a.kind);
+    put(t, SLOTS + ACCESSES + i, a.mode);
+    put(t, SLOTS + 2 * ACCESSES + i, a.start);
+    put(t, SLOTS + 3 * ACCESSES + i, a.width);
+    put(t, SLOTS + 4 * ACCESSES + i, a.tear);
 }
 
 pub fn put_row(q: &mut [u8], j: usize, r: Row, seen: u8, wrote: u8)
     ensures { q.new ≡ putting_row q.old (j % row_room) r seen wrote }
 {
-    let i = j % 288;
+    let i = j % ROWS;
     put(q, i, r.reader);
-    put(q, 288 + i, r.address);
-    put(q, 576 + i, r.writer);
-    put(q, 864 + i, seen);
-    put(q, 1152 + i, wrote);
+    put(q, ROWS + i, r.address);
+    put(q, 2 * ROWS + i, r.writer);
+    put(q, 3 * ROWS + i, seen);
+    put(q, 4 * ROWS + i, wrote);
 }
 
 pub fn put_pair(p: &mut [u8], j: usize, r: Pair)
     ensures { p.new ≡ putting_pair p.old (j % pair_room) r }
 {
-    let i = j % 32;
+    let i = j % PAIRS;
     put(p, i, r.first);
-    put(p, 32 + i, r.second);
+    put(p, PAIRS + i, r.second);
 }

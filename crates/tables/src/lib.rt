@@ -8,44 +8,45 @@ ghost use Rattle.tables.specs.Tables.{accesses, agent_in, shape_in, slot_in, at_
 
 use format::Shape;
 use ranges::covers;
+use sets::SLOTS;
 
 // The slots for accesses, two to an event.
 pub const ACCESSES: usize = 64;
 
-// The places for agents: 01 and 02 have at most 8.
+// The places for agents: a sheet has at most 8.
 pub const AGENTS: usize = 16;
 
 // A column of 32 agents, then five of 64: kind, mode, start, width, tear.
-pub const COLUMNS: usize = 352;
+pub const COLUMNS: usize = SLOTS + 5 * ACCESSES;
 
-// A well-formed sheet has at most 8 rows for each access of its events that are not inits: 144 today, 288 with 02 §11.
+// A well-formed sheet has at most 8 rows for each access of its events that are not inits: 144 today, 288 where an event has two.
 pub const ROWS: usize = 288;
 
 // Five columns: reader, flat byte, writer, seen, wrote.
-pub const ROW_CELLS: usize = 1440;
+pub const ROW_CELLS: usize = 5 * ROWS;
 
 // At most 32 pairs.
 pub const PAIRS: usize = 32;
 
 // Two columns: first, second.
-pub const PAIR_CELLS: usize = 64;
+pub const PAIR_CELLS: usize = 2 * PAIRS;
 
 pub fn agent(t: &[u8; COLUMNS], e: usize) -> u8
     ensures { result ≡ agent_in t.now (e % slots) }
 {
-    t[e % 32] % 16
+    t[e % SLOTS] % AGENTS as u8
 }
 
 pub fn shape(t: &[u8; COLUMNS], k: usize) -> Shape
     ensures { result ≡ shape_in t.now (k % accesses) }
 {
-    let i = k % 64;
+    let i = k % ACCESSES;
     Shape {
-        kind: t[32 + i],
-        mode: t[96 + i],
-        start: t[160 + i],
-        width: t[224 + i],
-        tear: t[288 + i],
+        kind: t[SLOTS + i],
+        mode: t[SLOTS + ACCESSES + i],
+        start: t[SLOTS + 2 * ACCESSES + i],
+        width: t[SLOTS + 3 * ACCESSES + i],
+        tear: t[SLOTS + 4 * ACCESSES + i],
     }
 }
 
@@ -53,7 +54,7 @@ pub fn shape(t: &[u8; COLUMNS], k: usize) -> Shape
 pub fn slot_at(t: &[u8; COLUMNS], e: usize, a: u8) -> usize
     ensures { result ≡ slot_in t.now (e % slots) a }
 {
-    let k = 2 * (e % 32);
+    let k = 2 * (e % SLOTS);
     if covers(shape(t, k), a) { k } else { k + 1 }
 }
 

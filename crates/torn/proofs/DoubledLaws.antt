@@ -136,4 +136,4 @@ module _ (s : List ℕ) (n : ℕ) (few : n ≤ slots) (no : Doubled s → ⊥) w
       le-ltb (first_of (two_sources_in s e) pairs) pairs (omega arith)
 
   pub not_doubled : Kept ≡ named_in s n
-  not_doubled = none_here s n n (omega arith) (first_past (torn_in s) n n (omega arith) not_torn)
+  not_doubled = none_here s n not_torn

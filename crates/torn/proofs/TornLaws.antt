@@ -1,9 +1,9 @@
 -- The laws of specs/Torn.antt, as the loops and returns use them. Assumes nothing.
---     torn_yes, torn_no                                 what a turn of the last loop tests
+--     torn_is, torn_no                                  what a turn of the last loop finds
 --     row_gains, row_keeps, sources_none, sources_more, sources_length     the sources, row by row
 --     bit_joined, slot_bound, row_set, sources_next                 the same as the code writes them
 --     named_here, none_here                             which is named
-use Rattle.std.proofs.Common.{◌≡◌, ℕ, zero, suc, ◌+◌, ◌*◌, ◌/◌, ◌%◌, ◌^◌, ◌<◌, ◌≤◌, Bool, true, false, cond, List, length, get_or, set, sym, refl, ap, ◌∙◌, mod-eq_of_lt, zero-mul, arith, le-ltb, lt-ltb}
+use Rattle.std.proofs.Common.{◌≡◌, ℕ, zero, suc, ◌+◌, ◌*◌, ◌/◌, ◌%◌, ◌^◌, ◌<◌, Bool, true, false, cond, List, length, get_or, set, sym, refl, ap, ◌∙◌, mod-eq_of_lt, zero-mul, arith, le-ltb, lt-ltb}
 use lib.Bits.{bit_or, or_zero_r}
 use lib.Seq.{set-get_or}
 use Rattle.basis.proofs.BoolLaws.{by_bool}
@@ -15,24 +15,25 @@ use Rattle.sets.specs.Mask.{slots, insert}
 use Rattle.sets.proofs.MaskLaws.{one_shl, or_one}
 use Rattle.cells.specs.Walk.{up_to}
 use Rattle.cells.specs.Cells.{gaining}
-use Rattle.cells.specs.First.{first_of}
+use Rattle.std.specs.Prelude.{Option, Some, None}
+use Rattle.cells.specs.First.{first_of, first_some}
+use Rattle.cells.proofs.FirstLaws.{some_is, none_is, first_found, first_past}
 use Rattle.cells.proofs.WalkLaws.{up_to_more}
 use Rattle.cells.proofs.CellsLaws.{gaining_length}
 use Rattle.tables.specs.Tables.{accesses, slot_in, row_in}
 use Rattle.tables.proofs.TablesLaws.{slot_lt}
 use Rattle.torn.specs.Torn.{untorn_in, source_gains, sources_in, two_sources_in, pairs, torn_in, named_in}
 
-module _ (s : List ℕ) (e p : ℕ) (h : e < slots) (is : p ≡ first_of (two_sources_in s (e % slots)) pairs) where
-  same_pair : p ≡ first_of (two_sources_in s e) pairs
-  same_pair = is ∙ ap (λ (x : ℕ). first_of (two_sources_in s x) pairs) (mod-eq_of_lt h)
+module _ (s : List ℕ) (e : ℕ) (h : e < slots) (r : Option ℕ) (is : r ≡ first_some (two_sources_in s (e % slots)) pairs) where
+  same_pair : r ≡ first_some (two_sources_in s e) pairs
+  same_pair = is ∙ ap (λ (x : ℕ). first_some (two_sources_in s x) pairs) (mod-eq_of_lt h)
 
-  pub torn_yes : p < pairs → torn_in s e ≡ true
-  unfolding torn_in
-  torn_yes l = let z = same_pair in lt-ltb (first_of (two_sources_in s e) pairs) pairs (omega arith)
+  pub torn_is : (p : ℕ) → r ≡ Some p → (p ≡ first_of (two_sources_in s e) pairs) × (p < pairs)
+  torn_is p l = some_is (two_sources_in s e) pairs r p same_pair l
 
-  pub torn_no : pairs ≤ p → torn_in s e ≡ false
+  pub torn_no : r ≡ None → torn_in s e ≡ false
   unfolding torn_in
-  torn_no l = let z = same_pair in le-ltb (first_of (two_sources_in s e) pairs) pairs (omega arith)
+  torn_no l = le-ltb (first_of (two_sources_in s e) pairs) pairs (none_is (two_sources_in s e) pairs r same_pair l)
 
 -- ---- the sources, row by row
 
@@ -89,14 +90,16 @@ module _ (t q : List ℕ) (l : List ℕ) where
 
 -- ---- which is named
 
-pub named_here : (s : List ℕ) (n e p : ℕ) → n ≤ slots → e ≡ first_of (torn_in s) n → e < n → p ≡ first_of (two_sources_in s (e % slots)) pairs
+pub named_here : (s : List ℕ) (n e p : ℕ) → e < n → ((d : ℕ) → d < e → torn_in s d ≡ false) → (p ≡ first_of (two_sources_in s e) pairs) × (p < pairs)
     → Breach 25 (Torn e (p / slots) (p % slots)) ≡ named_in s n
-unfolding named_in
-named_here s n e p room f h g =
-    ap (λ (x : ℕ). Breach 25 (Torn e (x / slots) (x % slots))) (same_pair s e p (omega arith) g)
+unfolding named_in torn_in
+named_here s n e p h before is =
+    let yes : torn_in s e ≡ true = let q = is.0 in let l = is.1 in lt-ltb (first_of (two_sources_in s e) pairs) pairs (omega arith) in
+    let f : e ≡ first_of (torn_in s) n = first_found (torn_in s) n e h before yes in
+    ap (λ (x : ℕ). Breach 25 (Torn e (x / slots) (x % slots))) is.0
     ∙ ap (λ (x : ℕ). Breach 25 (Torn x (first_of (two_sources_in s x) pairs / slots) (first_of (two_sources_in s x) pairs % slots))) f
     ∙ named_yes (first_of (torn_in s) n) n _ (omega arith)
 
-pub none_here : (s : List ℕ) (n j : ℕ) → n ≤ j → j ≡ first_of (torn_in s) n → Kept ≡ named_in s n
+pub none_here : (s : List ℕ) (n : ℕ) → ((d : ℕ) → d < n → torn_in s d ≡ false) → Kept ≡ named_in s n
 unfolding named_in
-none_here s n j l e = named_no (first_of (torn_in s) n) n _ (omega arith)
+none_here s n before = let f = first_past (torn_in s) n n (omega arith) before in named_no (first_of (torn_in s) n) n _ (omega arith)

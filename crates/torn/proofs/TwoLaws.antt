@@ -7,8 +7,9 @@ use native.Mathlib.Decide.{ℕ_discrete, dec_lt}
 use Rattle.basis.proofs.BoolLaws.{and_holds, and_both, not_both_ways, false_of, not_both, eqb_self}
 use Rattle.sets.specs.Mask.{slots, mem, Has, remove, Lowest}
 use Rattle.sets.proofs.MaskLaws.{mem_remove, mem_empty, mem_lt, remove_le, remove_old, remove_cases}
-use Rattle.cells.specs.First.{first_of}
-use Rattle.cells.proofs.FirstLaws.{first_is}
+use Rattle.std.specs.Prelude.{Some, None}
+use Rattle.cells.specs.First.{first_some}
+use Rattle.cells.proofs.FirstLaws.{some_here, some_none}
 use Rattle.torn.specs.Torn.{two_in, pairs}
 
 pub record Two (m w v : ℕ) : Type 0 where
@@ -81,20 +82,16 @@ module _ (m w v : ℕ) (width : m < 2 ^ slots) (lw : Lowest m w) (lv : Lowest (r
           let r = remove_le m (w % slots) in
           omega (arith, mem_lt slots (remove m (w % slots)) v (omega arith) (lv.member (omega (arith, f))))
 
-  pub two_first : v < slots → w * slots + v ≡ first_of (two_in m) pairs
+  pub two_first : v < slots → Some (w * slots + v) ≡ first_some (two_in m) pairs
   unfolding two_in
   two_first h =
       let t = two_found h in
       let up = t.rising in
       let i : (w * slots + v) / slots ≡ w = omega arith in
       let j : (w * slots + v) % slots ≡ v = omega arith in
-      first_is (two_in m)
-      (record {
-        within = omega arith;
-        passes = λ z. and_holds (ltb ((w * slots + v) / slots) ((w * slots + v) % slots)) _ (lt-ltb ((w * slots + v) / slots) ((w * slots + v) % slots) (omega arith))
-            ∙ and_holds (mem m ((w * slots + v) / slots)) _ (ap (mem m) i ∙ t.first) ∙ ap (mem m) j ∙ t.second;
-        least = λ d z. false_of (two_in m d) (λ y. lower t d z (two_parts m d y));
-      })
+      some_here (two_in m) pairs (w * slots + v) (omega arith) (λ d z. false_of (two_in m d) (λ y. lower t d z (two_parts m d y)))
+      (and_holds (ltb ((w * slots + v) / slots) ((w * slots + v) % slots)) _ (lt-ltb ((w * slots + v) / slots) ((w * slots + v) % slots) (omega arith))
+      ∙ and_holds (mem m ((w * slots + v) / slots)) _ (ap (mem m) i ∙ t.first) ∙ ap (mem m) j ∙ t.second)
     where
       lower : Two m w v → (d : ℕ) → d < w * slots + v → (d / slots < d % slots) × (Has m (d / slots) × Has m (d % slots)) → ⊥
       lower t d z y = go (dec_lt (d / slots) w)
@@ -105,11 +102,5 @@ module _ (m w v : ℕ) (width : m < 2 ^ slots) (lw : Lowest m w) (lv : Lowest (r
               let q : d / slots ≡ w = omega (arith, k) in
               not_both_ways y.1.1 (t.next (d % slots) (omega (arith, y.0)) (omega arith))
 
-  pub two_last : slots ≤ v → pairs ≡ first_of (two_in m) pairs
-  two_last h =
-      first_is (two_in m)
-      (record {
-        within = omega arith;
-        passes = λ z. absurd (omega arith);
-        least = λ d z. false_of (two_in m d) (λ y. let t = two_parts m d y in two_none h (d / slots) (d % slots) t.0 t.1.0 t.1.1);
-      })
+  pub two_last : slots ≤ v → None ≡ first_some (two_in m) pairs
+  two_last h = some_none (two_in m) pairs (λ d z. false_of (two_in m d) (λ y. let t = two_parts m d y in two_none h (d / slots) (d % slots) t.0 t.1.0 t.1.1))

@@ -4,9 +4,9 @@
 ghost use Rattle.std.specs.Prelude.{◌≡◌, ◌%◌, min, if◌then◌else◌};
 ghost use Rattle.sets.specs.Mask.{slots, insert};
 ghost use Rattle.sets.specs.Tells.{Tells};
-ghost use Rattle.cells.specs.First.{first_of};
+ghost use Rattle.cells.specs.First.{first_some};
 ghost use Rattle.tables.specs.Tables.{slot_in};
-ghost use Rattle.torn.specs.Torn.{untorn_in, source_gains, two_in, two_sources_in, pairs, torn_in, named_in};
+ghost use Rattle.torn.specs.Torn.{untorn_in, source_gains, two_in, two_sources_in, pairs, named_in};
 ghost use Rattle.torn.specs.steps.Noticed.{Marks};
 ghost use Rattle.torn.specs.steps.Doubled.{Twice, Doubled};
 
@@ -14,9 +14,6 @@ use answer::{Names, Rule};
 use format::Row;
 use sets::{SLOTS, least};
 use tables::{ACCESSES, COLUMNS};
-
-// Two events as one number, the first times the slots plus the second.
-const PAIRS: usize = SLOTS * SLOTS;
 
 // Are both ends of the row tear-free, with equal ranges? k is the slot of the reader's access.
 fn untorn(t: &[u8; COLUMNS], k: usize, r: Row) -> bool
@@ -50,46 +47,37 @@ pub fn note_row(t: &[u8; COLUMNS], r: Row, masks: &mut [u32; ACCESSES])
     masks[k] = join(masks[k], r.writer as usize, untorn(t, k, r));
 }
 
-// The two lowest members of a set, as one number; `PAIRS` where it has fewer.
-fn two(m: u32) -> usize
-    ensures { result ≡ first_of (two_in m) pairs }
+// The two lowest members of a set, as one number, where it has two: so the less of two numbers stands for the first of two pairs.
+fn two(m: u32) -> Option<usize>
+    ensures { result ≡ first_some (two_in m) pairs }
 {
     let w = sets::lowest(m);
     let v = sets::lowest(sets::without(m, w));
     if v < SLOTS {
-        return w * SLOTS + v;
+        return Some(w * SLOTS + v);
     }
-    PAIRS
+    None
 }
 
 // The lowest two sources that one of event e's accesses has.
-fn pair(s: &[u32; ACCESSES], e: usize) -> usize
-    ensures { result ≡ first_of (two_sources_in s.now (e % slots)) pairs }
+fn pair(s: &[u32; ACCESSES], e: usize) -> Option<usize>
+    ensures { result ≡ first_some (two_sources_in s.now (e % slots)) pairs }
 {
     let k = 2 * (e % SLOTS);
-    least(two(s[k]), two(s[k + 1]))
-}
-
-// The first event that has two.
-fn torn(s: &[u32; ACCESSES], n: usize) -> usize
-    ensures { result ≡ first_of (torn_in s.now) (min n slots) }
-{
-    let m = least(n, SLOTS);
-    let mut e: usize = 0;
-    while e < m {
-        if pair(s, e) < PAIRS {
-            return e;
-        }
-        e += 1;
-    }
-    m
+    let Some(p) = two(s[k]) else {
+        return two(s[k + 1]);
+    };
+    let Some(q) = two(s[k + 1]) else {
+        return Some(p);
+    };
+    Some(least(p, q))
 }
 
 // The set without its least member, which is not empty where it has two.
 pub fn others(m: u32) -> u32
     ensures { Marks result (Twice m) }
 {
-    m & std::num::wrapping_sub_u32(m, 1)
+    m & m.wrapping_sub(1)
 }
 
 // Has some mask two members? All are looked at, so that the machine takes several at once.
@@ -103,20 +91,20 @@ fn doubled(s: &[u32; ACCESSES]) -> bool
     c != 0
 }
 
-// 25 at that event, with the two. Mostly no mask has two members.
+// 25 at the first event that has two, with the lowest. Mostly no mask has two members.
 pub fn named(s: &[u32; ACCESSES], n: usize) -> Rule
     ensures { result ≡ named_in s.now (min n slots) }
 {
     if !doubled(s) {
         return Rule::Kept;
     }
-    let e = torn(s, n);
-    if e < least(n, SLOTS) {
-        let p = pair(s, e);
-        return Rule::Breach(
-            25,
-            Names::Torn(e as u8, (p / SLOTS) as u8, (p % SLOTS) as u8),
-        );
+    for e in 0..least(n, SLOTS) {
+        if let Some(p) = pair(s, e) {
+            return Rule::Breach(
+                25,
+                Names::Torn(e as u8, (p / SLOTS) as u8, (p % SLOTS) as u8),
+            );
+        }
     }
     Rule::Kept
 }

@@ -1,6 +1,6 @@
 -- `alike::keys` meets its contract: the first k keys are placed. The measure is what is left. Assumes nothing.
 use mathlib.Core.Path.{◌≡◌, ap, ◌∙◌, subst}
-use Prim.Native.Nat.{ℕ, ◌-◌, ◌*◌, ◌%◌, min}
+use Prim.Native.Nat.{ℕ, ◌*◌, ◌%◌, min}
 use native.Mathlib.Nat.{mod-eq_of_lt}
 use native.Mathlib.Omega.{arith}
 use Rattle.format.specs.declared.Shape.{Shape}

@@ -1,6 +1,6 @@
 -- `alike::single` meets its contract: of the first k slots it is known. The measure is what is left. Assumes nothing.
 use mathlib.Core.Path.{◌≡◌, ap, subst, ◌∙◌}
-use Prim.Native.Nat.{ℕ, ◌-◌}
+use Prim.Native.Nat.{ℕ}
 use native.Mathlib.Nat.{mod-eq_of_lt}
 use native.Mathlib.Omega.{arith}
 use Rattle.format.specs.Shape.{sc}

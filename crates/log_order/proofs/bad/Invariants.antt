@@ -1,16 +1,8 @@
 -- `log_order::bad` meets its contract: what stands before j passes not, and s is its set. Assumes nothing.
-use mathlib.Core.Path.{◌≡◌}
-use mathlib.Core.Bool.{false}
-use Prim.Native.Nat.{ℕ, ◌-◌, ◌≤◌, ◌<◌}
-use lib.ListN.{length}
+use Rattle.std.proofs.Common.{◌≡◌, ℕ, ◌<◌, false}
 use Rattle.log_order.specs.Listed.{bad_at}
 use Rattle.log_order.specs.steps.Masks.{Stood}
 use Rattle.log_order.proofs.bad.Given as goal
 
 abbrev pub invariant-loop-j : goal.invariant-loop-j
-invariant-loop-j l =
-    (l.j ≤ l.n) × (l.n ≡ length l.list) × Stood l.list l.j l.s × ((d : ℕ) → d < l.j → bad_at l.m l.list d ≡ false)
-
-abbrev pub decreases-loop-j : goal.decreases-loop-j
-decreases-loop-j l =
-    l.n - l.j
+invariant-loop-j l = Stood l.list l.j l.s × ((d : ℕ) → d < l.j → bad_at l.m l.list d ≡ false)

@@ -1,38 +1,19 @@
--- `rules::cyclic` meets its contract: what stands before e passes not. The measure is what is left. Assumes nothing.
-use mathlib.Core.Path.{◌≡◌, sym, ◌∙◌}
-use mathlib.Core.Bool.{false}
-use Prim.Native.Nat.{ℕ, ◌-◌, min}
-use native.Mathlib.Omega.{arith}
-use borrow.Author.Count.{below_more}
-use lib.ListN.{get_or}
+-- `rules::cyclic` meets its contract: the search through the events. Assumes nothing.
+use Rattle.std.proofs.Common.{rules, sym, arith, ◌≡◌, ◌∙◌, ◌%◌, min, true, false, get_or}
+use Rattle.std.proofs.lemmas.Iterator.{first_from_Range}
+use borrow.Author.Tests.{tests}
 use Rattle.sets.specs.Mask.{slots, mem}
 use Rattle.sets.proofs.MaskLaws.{at_slot}
-use Rattle.cells.proofs.FirstLaws.{first_found, first_none}
+use Rattle.cells.proofs.FirstLaws.{some_from_range}
 use Rattle.rules.specs.Rules.{cyclic_in}
 use Rattle.rules.proofs.cyclic.Goals as goal
-
-pub loop-e-init : goal.loop-e-init
-loop-e-init c = (omega arith, omega arith, λ d h. absurd (omega arith))
-
-pub returns-then-has : goal.returns-then-has
-unfolding cyclic_in
-returns-then-has c =
-    let l = c.loop-e in
-    let a = c.args in
-    let z = c.least-m.ensures in
-    first_found (cyclic_in a.succ.now) (min a.n slots) l.e (omega arith) l.invariant.2 (sym (at_slot (mem (get_or a.succ.now l.e 0)) l.e (omega arith)) ∙ sym c.has.ensures ∙ c.if-has.true)
-
-pub loop-e-preserved : goal.loop-e-preserved
-unfolding cyclic_in
-loop-e-preserved c =
-    let l = c.loop-e in
-    let a = c.args in
-    (omega arith, l.invariant.1, below_more (λ (d : ℕ). cyclic_in a.succ.now d ≡ false) l.e l.invariant.2 (sym (at_slot (mem (get_or a.succ.now l.e 0)) l.e (omega arith)) ∙ sym c.has.ensures ∙ c.if-has.false))
 
 pub returns : goal.returns
 unfolding cyclic_in
 returns c =
-    let l = c.loop-e in
-    let a = c.args in
-    let z = c.least-m.ensures in
-    z ∙ first_none (cyclic_in a.succ.now) (min a.n slots) l.e (omega arith) (omega arith) l.invariant.2
+    let s = c.args.succ.now in
+    some_from_range (cyclic_in s) (min c.args.n slots) c.find.result c.least.result (λ k. mem (get_or s k 0) (k % slots) ≡ true) (λ k. mem (get_or s k 0) (k % slots) ≡ false)
+    (first_from_Range _ _ _ c.find.result (λ k. mem (get_or s k 0) (k % slots) ≡ true) (λ k. mem (get_or s k 0) (k % slots) ≡ false) c.find.ensures.ran (λ x q k. search (rules, tests)) (λ x q k. search (rules, tests)))
+    c.least.ensures
+    (λ i h y. sym (at_slot (mem (get_or s i 0)) i (omega arith)) ∙ y)
+    (λ i h y. sym (at_slot (mem (get_or s i 0)) i (omega arith)) ∙ y)

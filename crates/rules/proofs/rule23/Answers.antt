@@ -1,16 +1,12 @@
--- `rules::rule23` meets its contract, by the test. Assumes nothing.
-use Prim.Native.Nat.{min}
-use native.Mathlib.Omega.{arith}
+-- `rules::rule23` meets its contract, by the search. Assumes nothing.
+use Rattle.std.proofs.Common.{min, arith}
 use Rattle.tables.specs.Tables.{row_room}
 use Rattle.rules.proofs.RulesLaws.{rule23_yes, rule23_no}
 use Rattle.rules.proofs.rule23.Goals as goal
 
-pub returns-then-j-least : goal.returns-then-j-least
-returns-then-j-least c =
-    let z = c.least.ensures in
-    rule23_yes c.args.q.now (min c.args.n row_room) c.turned-j.result (omega arith) c.row-r.result c.row-r.ensures c.args.succ.now c.turned-j.ensures (omega arith)
+pub returns-in-Some : goal.returns-in-Some
+returns-in-Some c =
+    rule23_yes c.args.q.now (min c.args.n row_room) c.in-Some.j (omega arith) c.row-r.result c.row-r.ensures c.args.succ.now c.turned.result c.turned.ensures c.in-Some.is
 
 pub returns : goal.returns
-returns c =
-    let z = c.least.ensures in
-    rule23_no (min c.args.n row_room) c.turned-j.result (omega arith) c.args.q.now c.args.succ.now c.turned-j.ensures
+returns c = rule23_no (min c.args.n row_room) c.turned.result c.in_default.is c.args.q.now c.args.succ.now c.turned.ensures

@@ -1,6 +1,6 @@
 -- `rules::sources` meets its contract: the sources of the first j rows are noted. The measure is what is left. Assumes nothing.
 use mathlib.Core.Path.{◌≡◌, ap, ◌∙◌}
-use Prim.Native.Nat.{ℕ, ◌-◌, min}
+use Prim.Native.Nat.{ℕ, min}
 use native.Mathlib.Omega.{arith}
 use Rattle.tables.specs.Tables.{row_room}
 use Rattle.tables.proofs.TablesLaws.{row_at_lem}

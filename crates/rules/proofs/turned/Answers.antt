@@ -1,34 +1,25 @@
--- `rules::turned` meets its contract: what stands before j passes not. The measure is what is left. Assumes nothing.
-use mathlib.Core.Path.{◌≡◌, sym, ◌∙◌}
-use mathlib.Core.Bool.{false}
-use Prim.Native.Nat.{ℕ, ◌-◌, min}
-use native.Mathlib.Omega.{arith}
-use borrow.Author.Count.{below_more}
-use Rattle.cells.proofs.FirstLaws.{first_found, first_none}
-use Rattle.tables.specs.Tables.{row_room}
+-- `rules::turned` meets its contract: the search through the rows. Assumes nothing.
+use Rattle.std.proofs.Common.{rules, refl, sym, arith, ◌≡◌, ◌∙◌, ◌%◌, min, true, false, get_or}
+use Rattle.std.proofs.lemmas.Iterator.{first_from_Range}
+use borrow.Author.Tests.{tests}
+use Rattle.sets.specs.Mask.{slots, mem}
+use Rattle.cells.proofs.FirstLaws.{some_from_range}
+use Rattle.tables.specs.Tables.{row_room, row_in}
 use Rattle.rules.specs.Rules.{turned_in}
 use Rattle.rules.proofs.RulesLaws.{turned_is}
 use Rattle.rules.proofs.turned.Goals as goal
 
-pub loop-j-init : goal.loop-j-init
-loop-j-init c = (omega arith, omega arith, λ d h. absurd (omega arith))
-
-pub returns-then-has : goal.returns-then-has
-returns-then-has c =
-    let l = c.loop-j in
-    let a = c.args in
-    let z = c.least-m.ensures in
-    first_found (turned_in a.q.now a.succ.now) (min a.n row_room) l.j (omega arith) l.invariant.2 (sym (turned_is a.q.now l.j (omega arith) c.row-r.result c.row-r.ensures a.succ.now) ∙ sym c.has.ensures ∙ c.if-has.true)
-
-pub loop-j-preserved : goal.loop-j-preserved
-loop-j-preserved c =
-    let l = c.loop-j in
-    let a = c.args in
-    (omega arith, l.invariant.1, below_more (λ (d : ℕ). turned_in a.q.now a.succ.now d ≡ false) l.j l.invariant.2 (sym (turned_is a.q.now l.j (omega arith) c.row-r.result c.row-r.ensures a.succ.now) ∙ sym c.has.ensures ∙ c.if-has.false))
-
 pub returns : goal.returns
 returns c =
-    let l = c.loop-j in
-    let a = c.args in
-    let z = c.least-m.ensures in
-    z ∙ first_none (turned_in a.q.now a.succ.now) (min a.n row_room) l.j (omega arith) (omega arith) l.invariant.2
+    let q = c.args.q.now in
+    let s = c.args.succ.now in
+    some_from_range (turned_in q s) (min c.args.n row_room) c.find.result c.least.result
+    (λ k. mem (get_or s ((row_in q (k % row_room)).reader % slots) 0) ((row_in q (k % row_room)).writer % slots) ≡ true)
+    (λ k. mem (get_or s ((row_in q (k % row_room)).reader % slots) 0) ((row_in q (k % row_room)).writer % slots) ≡ false)
+    (first_from_Range _ _ _ c.find.result
+    (λ k. mem (get_or s ((row_in q (k % row_room)).reader % slots) 0) ((row_in q (k % row_room)).writer % slots) ≡ true)
+    (λ k. mem (get_or s ((row_in q (k % row_room)).reader % slots) 0) ((row_in q (k % row_room)).writer % slots) ≡ false)
+    c.find.ensures.ran (λ x q k. search (rules, tests)) (λ x q k. search (rules, tests)))
+    c.least.ensures
+    (λ i h y. sym (turned_is q i (omega arith) (row_in q (i % row_room)) refl s) ∙ y)
+    (λ i h y. sym (turned_is q i (omega arith) (row_in q (i % row_room)) refl s) ∙ y)

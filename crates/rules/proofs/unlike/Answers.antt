@@ -1,34 +1,19 @@
--- `rules::unlike` meets its contract: what stands before j passes not. The measure is what is left. Assumes nothing.
-use mathlib.Core.Path.{◌≡◌, ◌∙◌}
-use mathlib.Core.Bool.{false}
-use Prim.Native.Nat.{ℕ, ◌-◌, min}
-use native.Mathlib.Omega.{arith}
-use borrow.Author.Count.{below_more}
-use Rattle.cells.proofs.FirstLaws.{first_found, first_none}
-use Rattle.tables.specs.Tables.{row_room}
+-- `rules::unlike` meets its contract: the search through the rows. Assumes nothing.
+use Rattle.std.proofs.Common.{rules, refl, arith, ◌≡◌, ◌%◌, min}
+use Rattle.std.proofs.lemmas.Iterator.{first_from_Range}
+use borrow.Author.Tests.{tests}
+use mathlib.Core.Logic.{◌≢◌}
+use Rattle.cells.proofs.FirstLaws.{some_from_range}
+use Rattle.tables.specs.Tables.{row_room, seen_in, wrote_in}
 use Rattle.rules.specs.Rules.{unlike_in}
 use Rattle.rules.proofs.RulesLaws.{unlike_yes, unlike_no}
 use Rattle.rules.proofs.unlike.Goals as goal
 
-pub loop-j-init : goal.loop-j-init
-loop-j-init c = (omega arith, omega arith, λ d h. absurd (omega arith))
-
-pub returns-then-seen-wrote : goal.returns-then-seen-wrote
-returns-then-seen-wrote c =
-    let l = c.loop-j in
-    let a = c.args in
-    let z = c.least-m.ensures in
-    first_found (unlike_in a.q.now) (min a.n row_room) l.j (omega arith) l.invariant.2 (unlike_yes a.q.now l.j c.seen.result c.wrote.result (omega arith) c.seen.ensures c.wrote.ensures c.if-seen-wrote.true)
-
-pub loop-j-preserved : goal.loop-j-preserved
-loop-j-preserved c =
-    let l = c.loop-j in
-    let a = c.args in
-    (omega arith, l.invariant.1, below_more (λ (d : ℕ). unlike_in a.q.now d ≡ false) l.j l.invariant.2 (unlike_no a.q.now l.j c.seen.result c.wrote.result (omega arith) c.seen.ensures c.wrote.ensures c.if-seen-wrote.false))
-
 pub returns : goal.returns
 returns c =
-    let l = c.loop-j in
-    let a = c.args in
-    let z = c.least-m.ensures in
-    z ∙ first_none (unlike_in a.q.now) (min a.n row_room) l.j (omega arith) (omega arith) l.invariant.2
+    let q = c.args.q.now in
+    some_from_range (unlike_in q) (min c.args.n row_room) c.find.result c.least.result (λ k. seen_in q (k % row_room) ≢ wrote_in q (k % row_room)) (λ k. seen_in q (k % row_room) ≡ wrote_in q (k % row_room))
+    (first_from_Range _ _ _ c.find.result (λ k. seen_in q (k % row_room) ≢ wrote_in q (k % row_room)) (λ k. seen_in q (k % row_room) ≡ wrote_in q (k % row_room)) c.find.ensures.ran (λ x q k. search (rules, tests)) (λ x q k. search (rules, tests)))
+    c.least.ensures
+    (λ i h y. unlike_yes q i _ _ (omega arith) refl refl y)
+    (λ i h y. unlike_no q i _ _ (omega arith) refl refl y)

@@ -1,36 +1,23 @@
--- `rules::writer_in` meets its contract: `left` has the members of which nothing is known yet. The measure is `left`, which gets smaller as a number.
--- Assumes nothing.
-use mathlib.Core.Path.{◌≡◌, sym, ap, ◌∙◌, subst}
-use Prim.Native.Nat.{ℕ}
-use native.Mathlib.Nat.{mod-eq_of_lt}
-use native.Mathlib.Omega.{arith}
-use Rattle.sets.specs.Mask.{remove}
-use Rattle.sets.proofs.MaskLaws.{remove_lt}
+-- `rules::writer_in` meets its contract: of what is left nothing is known yet. Assumes nothing.
+use Rattle.std.proofs.Common.{ℕ, sym, ap, ◌∙◌, mod-eq_of_lt}
 use Rattle.tables.specs.Tables.{writes_in}
-use Rattle.cells.proofs.FirstLaws.{Left, left_start, left_lowest, left_hit, left_next, left_end}
+use Rattle.cells.proofs.FirstLaws.{left_start, left_hit, left_next, left_end}
 use Rattle.rules.proofs.writer_in.Goals as goal
 
-pub loop-left-init : goal.loop-left-init
-loop-left-init c = left_start _ c.args.m c.ranges.m.fits
+pub loop-v-init : goal.loop-v-init
+loop-v-init c = rw (c.into_iter-v-iterator.ensures.into_iter_gives, c.members-v-items.ensures) (left_start _ c.args.m c.ranges.m.fits)
 
-pub returns-then-hit : goal.returns-then-hit
-returns-then-hit c =
-    let at = left_lowest c.loop-left.invariant c.lowest-v.result c.lowest-v.ensures c.loop-left-test.true in
-    let e = c.writes_byte-hit.ensures ∙ ap (λ (v : ℕ). writes_in c.args.t.now v c.args.a) (mod-eq_of_lt at.1) in
-    left_hit c.loop-left.invariant c.lowest-v.result c.lowest-v.ensures c.loop-left-test.true (sym e ∙ c.if-hit.true)
+pub returns-then-writes_byte : goal.returns-then-writes_byte
+returns-then-writes_byte c =
+    let k = c.in-Some.ensures.steps in
+    let e = c.writes_byte.ensures ∙ ap (λ (v : ℕ). writes_in c.args.t.now v c.args.a) (mod-eq_of_lt k.slot) in
+    left_hit c.loop-v.invariant c.in-Some.v c.next.new.self.left k (sym e ∙ c.if-writes_byte.true)
 
-pub loop-left-smaller : goal.loop-left-smaller
-loop-left-smaller c =
-    let at = left_lowest c.loop-left.invariant c.lowest-v.result c.lowest-v.ensures c.loop-left-test.true in
-    let e : c.without-left.result ≡ remove c.loop-left.left c.lowest-v.result = c.without-left.ensures ∙ ap (remove c.loop-left.left) (mod-eq_of_lt at.1) in
-    omega (arith, remove_lt c.loop-left.left c.lowest-v.result at.0, e)
-
-pub loop-left-preserved : goal.loop-left-preserved
-loop-left-preserved c =
-    let at = left_lowest c.loop-left.invariant c.lowest-v.result c.lowest-v.ensures c.loop-left-test.true in
-    let e : c.without-left.result ≡ remove c.loop-left.left c.lowest-v.result = c.without-left.ensures ∙ ap (remove c.loop-left.left) (mod-eq_of_lt at.1) in
-    let f = c.writes_byte-hit.ensures ∙ ap (λ (v : ℕ). writes_in c.args.t.now v c.args.a) (mod-eq_of_lt at.1) in
-    subst (Left (λ (v : ℕ). writes_in c.args.t.now v c.args.a) c.args.m) (sym e) (left_next c.loop-left.invariant c.lowest-v.result (sym f ∙ c.if-hit.false))
+pub loop-v-preserved : goal.loop-v-preserved
+loop-v-preserved c =
+    let k = c.in-Some.ensures.steps in
+    let e = c.writes_byte.ensures ∙ ap (λ (v : ℕ). writes_in c.args.t.now v c.args.a) (mod-eq_of_lt k.slot) in
+    left_next c.loop-v.invariant c.in-Some.v c.next.new.self.left k (sym e ∙ c.if-writes_byte.false)
 
 pub returns : goal.returns
-returns c = left_end c.loop-left.invariant c.loop-left-test.false
+returns c = left_end c.loop-v.invariant c.in-None.ensures.steps.0

@@ -1,47 +1,35 @@
--- `sift::alikes` meets its contract: the masks have gained the events that are gone from `left`. The measure is `left`. Assumes nothing.
-use mathlib.Core.Path.{sym, ap, ap₂, ◌∙◌, subst}
+-- `sift::alikes` meets its contract: the masks have gained the events that are no longer left. Assumes nothing.
+use mathlib.Core.Path.{◌≡◌, sym, ap, ◌∙◌, subst}
 use mathlib.Core.List.{List}
 use Prim.Native.Nat.{ℕ}
 use native.Mathlib.Nat.{mod-eq_of_lt}
 use native.Mathlib.Omega.{arith}
 use lib.Dec.{eqb}
 use lib.ListN.{length, get_or, length-replicate}
-use Rattle.sets.specs.Mask.{slots, Has, remove}
-use Rattle.sets.proofs.MaskLaws.{mem_lt, remove_lt}
+use Rattle.sets.specs.Mask.{slots}
 use Rattle.cells.specs.Cells.{placing}
 use Rattle.alike.specs.Ranges.{match}
 use Rattle.sift.specs.steps.Alikes.{Gained}
 use Rattle.sift.proofs.AlikesLaws.{gained_none, gained_next}
 use Rattle.sift.proofs.alikes.Goals as goal
 
-pub loop-left-init : goal.loop-left-init
-loop-left-init c =
+pub loop-v-init : goal.loop-v-init
+loop-v-init c =
     let a = c.args in
-    subst (λ (x : List ℕ). Gained a.by.now a.sc a.sc x) (sym c.requires) (gained_none a.by.now a.sc (omega arith))
+    rw (c.into_iter-v-iterator.ensures.into_iter_gives, c.members-v-items.ensures) (subst (λ (x : List ℕ). Gained a.by.now a.sc a.sc x) (sym c.requires) (gained_none a.by.now a.sc (omega arith)))
 
-pub loop-left-smaller : goal.loop-left-smaller
-loop-left-smaller c =
-    let l = c.loop-left in
-    let v = c.lowest-v.result in
-    let has : Has l.left v = c.lowest-v.ensures.member (omega (arith, c.loop-left-test.true)) in
-    let slot = mem_lt slots l.left v l.invariant.width has in
-    let e = c.without-left.ensures ∙ ap (remove l.left) (mod-eq_of_lt slot) in
-    omega (arith, remove_lt l.left v has, e)
-
-pub loop-left-preserved : goal.loop-left-preserved
-loop-left-preserved c =
-    let l = c.loop-left in
-    let v = c.lowest-v.result in
-    let has : Has l.left v = c.lowest-v.ensures.member (omega (arith, c.loop-left-test.true)) in
-    let at = mod-eq_of_lt (mem_lt slots l.left v l.invariant.width has) in
-    let e = c.without-left.ensures ∙ ap (remove l.left) at in
+pub loop-v-preserved : goal.loop-v-preserved
+loop-v-preserved c =
+    let l = c.loop-v in
+    let v : ℕ = c.in-Some.v in
+    let k = c.in-Some.ensures.steps in
     let by = c.args.by.now in
-    let after : List ℕ = placing (match (λ (k : ℕ). eqb (get_or by k 0) (get_or by v 0)) v l.eq) slots l.eq in
-    subst (λ (x : List ℕ). Gained by c.args.sc c.without-left.result x) (sym (c.gains.ensures ∙ ap₂ (λ (i d : ℕ). placing (match (λ (k : ℕ). eqb (get_or by k 0) (get_or by i 0)) d l.eq) slots l.eq) at at))
-    (subst (λ (x : ℕ). Gained by c.args.sc x after) (sym e) (gained_next by c.args.sc l.left l.eq l.invariant v has))
+    let is : ◌≡◌ {A = List ℕ} c.gains.new.eq (placing (match (λ (i : ℕ). eqb (get_or by i 0) (get_or by v 0)) v l.eq) slots l.eq) =
+    c.gains.ensures ∙ ap (λ (d : ℕ). placing (match (λ (i : ℕ). eqb (get_or by i 0) (get_or by v 0)) d l.eq) slots l.eq) (mod-eq_of_lt k.slot) in
+    rw (is, k.rest) (gained_next by c.args.sc l.v-iterator.left l.eq l.invariant v k.member)
 
 pub shape_of-eq : goal.shape_of-eq
-shape_of-eq c = c.loop-left.invariant.size ∙ sym (ap length c.requires ∙ length-replicate {A = ℕ} slots 0)
+shape_of-eq c = c.loop-v.invariant.size ∙ sym (ap length c.requires ∙ length-replicate {A = ℕ} slots 0)
 
 pub returns : goal.returns
-returns c = subst (λ (x : ℕ). Gained c.args.by.now c.args.sc x c.loop-left.eq) c.loop-left-test.false c.loop-left.invariant
+returns c = subst (λ (x : ℕ). Gained c.args.by.now c.args.sc x c.loop-v.eq) c.in-None.ensures.steps.0 c.loop-v.invariant

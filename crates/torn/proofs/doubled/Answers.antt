@@ -1,5 +1,5 @@
 -- `torn::doubled` meets its contract: of the first k masks it is known whether one has two members. The measure is what is left. Assumes nothing.
-use Rattle.std.proofs.Common.{◌≡◌, ℕ, ◌-◌, get_or, subst, arith}
+use Rattle.std.proofs.Common.{◌≡◌, ℕ, get_or, subst, arith}
 use Rattle.tables.specs.Tables.{accesses}
 use Rattle.torn.specs.steps.Noticed.{Marks, Among}
 use Rattle.torn.specs.steps.Doubled.{Twice}

@@ -42,7 +42,7 @@ pub struct Row {
     pub writer: u8,
 }
 
-#[derive(Clone, Copy)]
+#[derive(Clone, Copy, PartialEq, Eq, PartialOrd, Ord)]
 pub struct Pair {
     pub first: u8,
     pub second: u8,

@@ -37,5 +37,5 @@ pub fn row_below(q: Row, r: Row) -> bool
 pub fn pair_below(q: Pair, p: Pair) -> bool
     ensures { result ≡ pair_below q p }
 {
-    (q.first < p.first) | ((q.first == p.first) & (q.second < p.second))
+    q < p
 }

@@ -36,12 +36,9 @@ fn put_entries(out: &mut [u8], at: usize, tag: u8, gap: usize, n: usize, list: &
     ensures { Puts (run tag (λ (v : List ℕ). v) (each (part gap list.now) (from 0 n))) at result out.old out.new }
 {
     let mut next = at;
-    let mut k = 0;
-    let mut i = 0;
-    while i < n {
+    for i in 0..n {
+        let k = i * gap;
         next = put_field(out, next, tag, &list[k..k + gap]);
-        k += gap;
-        i += 1;
     }
     next
 }
@@ -118,15 +115,12 @@ fn put_events(
 {
     let mut next = at;
     let mut first = 0;
-    let mut k = 0;
-    let mut i = 0;
-    while i < n {
+    for i in 0..n {
+        let k = i * DESCRIPTION;
         let d = &events[k..k + DESCRIPTION];
         let end = end_of(bytes.len(), first, data_length(d));
         next = put_event(out, next, edition, d, &bytes[first..end]);
         first = end;
-        k += DESCRIPTION;
-        i += 1;
     }
     next
 }

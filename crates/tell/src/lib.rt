@@ -24,14 +24,12 @@ fn count(order: &[u8]) -> usize
     ensures within { result ≤ length order.now }
     ensures counted { take result order.now ≡ placed order.now }
 {
-    let mut n = 0;
-    while n < order.len() {
+    for n in 0..order.len() {
         if order[n] == UNUSED {
             return n;
         }
-        n += 1;
     }
-    n
+    order.len()
 }
 
 // Judges the sheet and writes the line of its answer; returns the line's length, 0 where it does not fit. The order buffer is lent full of `UNUSED`.

@@ -1,4 +1,5 @@
-// The first order in which all events can be placed, one at a time, and whether there is one: by the walks of crates `walks` and `glides`.
+// The first order in which all events can be placed, one at a time, and whether there is one: by the walk of crate `walks`, over a table of bars or over a
+// short list (crate `glides`).
 //
 // Tables: before[b] is the mask of the events that have to come before b; bars[v * 32 + w] is the mask of the r with a bar (r, w, v). A short list
 // of bars may stand for such a table.
@@ -13,8 +14,10 @@ ghost use Rattle.orders.specs.Listed.{list_room, listed_bars};
 ghost use Rattle.orders.specs.Answer.{Told, Answered};
 
 use gather::PAIRS;
+use glides::Entries;
 use orders::LIST;
 use sets::SLOTS;
+use walks::{Bars, Table};
 
 // The event at place i of the order that begins with k inits and goes on with the path.
 fn event_at(k: usize, path: &[u8], i: usize) -> u8
@@ -32,13 +35,35 @@ fn write(k: usize, m: usize, path: &[u8], order: &mut [u8])
     requires { (k ≤ m) × (m ≤ slots) × (m - k ≤ length path.now) × (m ≤ length order.old) }
     ensures { order.new ≡ take m (from 0 k ++ path.now) ++ drop m order.old }
 {
-    for i in 0..m {
-        order[i] = event_at(k, path, i);
+    for (i, e) in order[..m].iter_mut().enumerate() {
+        *e = event_at(k, path, i);
     }
 }
 
-// The first order in which all events can be placed one at a time, from the set of the inits on: whether there is one, and then in the
-// order buffer. Where the numbers or the buffers do not fit, false, and nothing is changed.
+// The first order in which all events can be placed one at a time, from the set of the inits on, by bars however they are held: whether there is one, and
+// then in the order buffer. Where the numbers or the buffers do not fit, false, and nothing is changed.
+fn first_by<B: Bars>(
+    inits: usize,
+    events: usize,
+    before: &[u32; SLOTS],
+    bars: &mut B,
+    scratch: &mut [u8],
+    order: &mut [u8],
+) -> bool
+    ensures { Answered inits events before.now (B.masks bars.old) scratch.old order.old result scratch.new order.new }
+{
+    if order.len() < events {
+        return false;
+    }
+    let mut path = [0u8; SLOTS];
+    if walks::seek_by(inits, events, before, bars, scratch, &mut path) {
+        write(inits, events, &path, order);
+        return true;
+    }
+    false
+}
+
+// That order by a table of bars.
 pub fn first(
     inits: usize,
     events: usize,
@@ -49,15 +74,8 @@ pub fn first(
 ) -> bool
     ensures { Answered inits events before.now bars.now scratch.old order.old result scratch.new order.new }
 {
-    if order.len() < events {
-        return false;
-    }
-    let mut path = [0u8; SLOTS];
-    if walks::seek(inits, events, before, bars, scratch, &mut path) {
-        write(inits, events, &path, order);
-        return true;
-    }
-    false
+    let mut table = Table::new(bars);
+    first_by(inits, events, before, &mut table, scratch, order)
 }
 
 // The same by a list of bars, of which the first n entries count, as far as there is room for them. No table is made.
@@ -74,18 +92,8 @@ pub fn first_listed(
 ) -> bool
     ensures { Answered inits events before.now (listed_bars between.now readers.now writers.now (min n list_room)) scratch.old order.old result scratch.new order.new }
 {
-    let places = order.len();
-    if places < events {
-        return false;
-    }
-    let mut path = [0u8; SLOTS];
-    if glides::seek(
-        inits, events, before, between, readers, writers, n, scratch, &mut path,
-    ) {
-        write(inits, events, &path, order);
-        return true;
-    }
-    false
+    let mut entries = Entries::new(between, readers, writers, n);
+    first_by(inits, events, before, &mut entries, scratch, order)
 }
 
 // Whether there is an order.

@@ -1,9 +1,9 @@
 -- The laws of specs/steps/Glide.antt. Assumes nothing.
 --     listed_ready ready_listed   what can be placed by the table of a list, as the entries tell it
 --     barred_none barred_more     the events that entries stop, entry by entry
---     Unseen, unseen_start, unseen_slot, unseen_less, unseen_next     a loop over the members of a set, the lowest first
+--     Unseen, unseen_start, unseen_slot, unseen_less, unseen_next, unseen_taken     a loop over the members of a set, the lowest first
 --     unseen_hit unseen_end       what it ends with
---     left_below next_left        the lowest event that can be placed, among those that no entry stops
+--     left_below next_left found_left        the lowest event that can be placed, among those that no entry stops
 use mathlib.Core.Path.{◌≡◌, refl, sym, ap, ap₂, subst, ◌∙◌}
 use mathlib.Core.Bool.{Bool, true, false, ◌&&◌, ◌||◌, not, cond, false≢true}
 use mathlib.Core.Logic.{◌⊎◌, inl, inr, ⊎_elim}
@@ -14,6 +14,10 @@ use native.Mathlib.Decide.{ℕ_discrete}
 use lib.Bits.{bit_and, bit_or}
 use lib.ListN.{get_or}
 use Rattle.basis.proofs.BoolLaws.{by_bool, not_both_ways, false_of, and_parts}
+use Rattle.std.specs.Prelude.{Option}
+use Rattle.sets.specs.Members.{Taken}
+use Rattle.placing.specs.Placing.{FoundBelow}
+use Rattle.placing.proofs.PlacingLaws.{found_map}
 use Rattle.sets.specs.Mask.{slots, mem, Has, Within, full, remove, Lowest, Rest}
 use Rattle.sets.proofs.MaskLaws.{mem_empty, mem_or, mem_diff, mem_full, full_has, mem_lt, lt_of_members, remove_old, remove_lt}
 use Rattle.placing.proofs.UntriedLaws.{Untried, untried_lowest, untried_hit, untried_next, untried_end}
@@ -130,6 +134,10 @@ module _ (m : ℕ) (before : List ℕ) (s left : ℕ) (wide : left < 2 ^ slots) 
       unseen_next f =
           record { untried = untried_next u.untried low some (λ q. f q.1); within = λ d h. u.within d (remove_old rest e d h) }
 
+    -- a turn of a `for` over them
+    pub unseen_taken : {e t : ℕ} → Taken rest e t → (Within (get_or before e 0) s → seen e ≡ true) → Unseen m before s left seen t
+    unseen_taken k f = subst (Unseen m before s left seen) (sym k.rest) (unseen_next k.low k.some f)
+
     pub unseen_end : rest ≡ 0 → NextAfter m before seen s left m
     unseen_end z =
         record {
@@ -140,10 +148,10 @@ module _ (m : ℕ) (before : List ℕ) (s left : ℕ) (wide : left < 2 ^ slots) 
           tried = tried_end z;
         }
 
-    pub unseen_hit : {e : ℕ} → Lowest rest e → (rest ≡ 0 → ⊥) → Within (get_or before e 0) s → seen e ≡ false → NextAfter m before seen s left e
-    unseen_hit low some h f =
-        let w = unseen_event low some in
-        record { bound = omega (arith, w); member = λ l. unseen_member low some; after = λ l. h; unseen = λ l. f; tried = tried_hit low some }
+    pub unseen_hit : {e t : ℕ} → Taken rest e t → Within (get_or before e 0) s → seen e ≡ false → (e < m) × NextAfter m before seen s left e
+    unseen_hit k h f =
+        let w = unseen_event k.low k.some in
+        (w, record { bound = omega (arith, w); member = λ l. unseen_member k.low k.some; after = λ l. h; unseen = λ l. f; tried = tried_hit k.low k.some })
 
 -- ---- the lowest event that can be placed
 
@@ -177,3 +185,8 @@ module _ (m k : ℕ) (before between readers writers : List ℕ) (n s free c : �
         unseen = a.unseen;
         tried = λ d l h q. let x = stays d l q in a.tried d h x.0 x.1;
       }
+
+  pub found_left : (seen : ℕ → Bool) (r : Option ℕ) → FoundBelow m (NextAfter m before seen s left) r
+      → FoundBelow m (NextReady (tabled m before (listed_bars between readers writers n)) seen s k) r
+  found_left seen r =
+      found_map m {P = NextAfter m before seen s left} {Q = NextReady (tabled m before (listed_bars between readers writers n)) seen s k} (λ e a. next_left a) r

@@ -1,239 +1,143 @@
-// A walk through the sets by a short list of bars (crate `walks` has it by a table): whether all events can be placed one at a time, and then the first
-// way. A set of placed events is a mask, and the path is the stack.
+// Bars in a short list, for the search of crate `walks`: which event is next is asked entry by entry, and no table is made.
 //
 // before[b] is the mask of the events that have to come before b; entry i of the list has the bars (readers[i], writers[i], v), for each v of between[i].
 // The first k of the m events are the inits; the table of entered sets in the scratch has a bit for each set of the others.
-// The public function has no `requires`: what does not fit is answered false, with nothing changed.
+// The public functions have no `requires`: what does not fit is answered false, with nothing changed.
 #![tactic(auto)]
 
 ghost use Rattle.std.specs.Prelude.{◌≡◌, false, ◌%◌, ◌^◌, ◌<◌, ◌≤◌, min, length};
 ghost use Rattle.sets.specs.Mask.{slots, Within, full};
-ghost use Rattle.placing.specs.Placing.{is_seen};
-ghost use Rattle.orders.specs.Tables.{tabled};
+ghost use Rattle.placing.specs.Placing.{is_seen, FoundBelow};
 ghost use Rattle.orders.specs.Listed.{list_room, listed_bars};
-ghost use Rattle.orders.specs.Answer.{Fits};
-ghost use Rattle.orders.specs.Walk.{Starting, Walked, NextReady, Descended, Clean, Searched, Sought};
+ghost use Rattle.orders.specs.Walk.{Sought};
 ghost use Rattle.glides.specs.steps.Glide.{Barred, NextAfter};
 
 use orders::LIST;
 use sets::SLOTS;
+use walks::Bars;
 
 // ---- which event is next
 
-// The event that an entry names.
-fn wide(e: u8) -> usize
-    ensures { result ≡ e }
-{
-    e as usize
-}
-
-// The events that one of the first n entries stops where the events of s are placed: its writer is, and its reader is not.
-fn barred(
-    between: &[u32; LIST],
-    readers: &[u8; LIST],
-    writers: &[u8; LIST],
-    n: usize,
-    s: u32,
-) -> u32
-    requires { n ≤ list_room }
-    ensures { Barred between.now readers.now writers.now n s result }
-{
-    let mut c: u32 = 0;
-    for i in 0..n {
-        let on = sets::has(s, wide(writers[i])) & !sets::has(s, wide(readers[i]));
-        c = c | sets::only(on, between[i]);
-    }
-    c
-}
-
-// The lowest event of `left` of which all that has to come before is placed; m if there is none.
-fn lowest_of(m: usize, before: &[u32; SLOTS], s: u32, left: u32) -> usize
+// The lowest event of `left` of which all that has to come before is placed; none if there is no such event.
+fn lowest_of(m: usize, before: &[u32; SLOTS], s: u32, left: u32) -> Option<usize>
     requires { Within left (full m) }
-    ensures { NextAfter m before.now (λ d. false) s left result }
+    ensures { FoundBelow m (NextAfter m before.now (λ d. false) s left) result }
 {
-    let mut rest = left;
-    while rest != 0 {
-        let v = sets::lowest(rest);
+    for v in sets::members(left) {
         if sets::subset(before[v], s) {
-            return v;
+            return Some(v);
         }
-        rest = sets::without(rest, v);
     }
-    m
+    None
 }
 
-// The lowest event from k on, below m, that can be placed after those of the set s; m if there is none.
-fn lowest_listed(
+// The lowest event of `left` of which all that has to come before is placed, and which leads to a set that is not marked; none if there is no such event.
+fn next_of(
     k: usize,
     m: usize,
     before: &[u32; SLOTS],
-    between: &[u32; LIST],
-    readers: &[u8; LIST],
-    writers: &[u8; LIST],
-    n: usize,
+    table: &[u8],
     s: u32,
-) -> usize
-    requires { (m ≤ slots) × (n ≤ list_room) × (s < 2 ^ m) }
-    ensures { NextReady (tabled m before.now (listed_bars between.now readers.now writers.now n)) (λ d. false) s k result }
-{
-    let left = sets::rest(s, k, m) & !barred(between, readers, writers, n, s);
-    lowest_of(m, before, s, left)
-}
-
-// The lowest event of `left` of which all that has to come before is placed, and which leads to a set that is not marked; m if there is none.
-fn next_of(k: usize, m: usize, before: &[u32; SLOTS], table: &[u8], s: u32, left: u32) -> usize
+    left: u32,
+) -> Option<usize>
     requires { Within left (full m) }
-    ensures { NextAfter m before.now (is_seen (k % slots) table.now s) s left result }
+    ensures { FoundBelow m (NextAfter m before.now (is_seen (k % slots) table.now s) s left) result }
 {
-    let mut rest = left;
-    while rest != 0 {
-        let e = sets::lowest(rest);
+    for e in sets::members(left) {
         if sets::subset(before[e], s) {
             let x = sets::above(sets::with(s, e), k);
             if !marks::marked(table, x as usize) {
-                return e;
+                return Some(e);
             }
         }
-        rest = sets::without(rest, e);
     }
-    m
+    None
 }
 
-// The lowest event from `from` on, below m, that can be placed after those of the set s and leads to a set that is not marked; m if there is none.
-fn next_listed(
-    k: usize,
-    m: usize,
-    before: &[u32; SLOTS],
-    between: &[u32; LIST],
-    readers: &[u8; LIST],
-    writers: &[u8; LIST],
+// ---- the list
+
+// A list of bars, of whose entries the first n count. The three arrays stand side by side as C lends them.
+#[derive(Drop)]
+pub struct Entries<'a> {
+    between: &'a [u32; LIST],
+    readers: &'a [u8; LIST],
+    writers: &'a [u8; LIST],
     n: usize,
-    table: &[u8],
-    s: u32,
-    from: usize,
-) -> usize
-    requires { (m ≤ slots) × (n ≤ list_room) × (s < 2 ^ m) }
-    ensures { NextReady (tabled m before.now (listed_bars between.now readers.now writers.now n)) (is_seen (k % slots) table.now s) s from result }
-{
-    let left = sets::rest(s, from, m) & !barred(between, readers, writers, n, s);
-    next_of(k, m, before, table, s, left)
+    ghost few: { n ≤ list_room },
 }
 
-// ---- the walk
-
-// As `descend` of crate `walks`, by a list of bars.
-fn glide(
-    k: usize,
-    m: usize,
-    before: &[u32; SLOTS],
-    between: &[u32; LIST],
-    readers: &[u8; LIST],
-    writers: &[u8; LIST],
-    n: usize,
-    path: &mut [u8],
-) -> bool
-    requires { (k ≤ m) × (m ≤ slots) × (slots ≤ length path.old) × (n ≤ list_room) }
-    ensures { Descended (tabled m before.now (listed_bars between.now readers.now writers.now n)) k result path.new }
-{
-    let all = sets::full(m);
-    let mut s = sets::full(k);
-    let mut depth: usize = 0;
-    while s != all {
-        let e = lowest_listed(k, m, before, between, readers, writers, n, s);
-        if m <= e {
-            return false;
-        }
-        path[depth] = e as u8;
-        s = sets::with(s, e);
-        depth += 1;
-    }
-    true
-}
-
-// As `walk` there.
-fn walk_listed(
-    k: usize,
-    m: usize,
-    before: &[u32; SLOTS],
-    between: &[u32; LIST],
-    readers: &[u8; LIST],
-    writers: &[u8; LIST],
-    n: usize,
-    table: &mut [u8],
-    path: &mut [u8],
-) -> bool
-    requires { Starting (tabled m before.now (listed_bars between.now readers.now writers.now n)) k table.old path.old × (n ≤ list_room) }
-    ensures { Walked (tabled m before.now (listed_bars between.now readers.now writers.now n)) k table.old result table.new path.new }
-{
-    let all = sets::full(m);
-    let mut s = sets::full(k);
-    let mut depth: usize = 0;
-    let mut from = k;
-    while s != all {
-        let e = next_listed(k, m, before, between, readers, writers, n, table, s, from);
-        if e < m {
-            s = placing::enter(k, s, e, table, path, depth);
-            depth += 1;
-            from = k;
-        } else {
-            if depth == 0 {
-                return false;
-            }
-            depth -= 1;
-            let x = path[depth] as usize;
-            s = sets::without(s, x);
-            from = x + 1;
+impl<'a> Entries<'a> {
+    // The first n entries count, as far as there is room for them.
+    pub fn new(
+        between: &'a [u32; LIST],
+        readers: &'a [u8; LIST],
+        writers: &'a [u8; LIST],
+        n: usize,
+    ) -> Entries<'a>
+        ensures between { result.between.now ≡ between.now }
+        ensures readers { result.readers.now ≡ readers.now }
+        ensures writers { result.writers.now ≡ writers.now }
+        ensures n { result.n ≡ min n list_room }
+    {
+        Entries {
+            between,
+            readers,
+            writers,
+            n: sets::least(n, LIST),
         }
     }
-    true
+
+    // The events that an entry stops where the events of s are placed: its writer is, and its reader is not.
+    fn barred(&self, s: u32) -> u32
+        ensures { Barred self.now.between.now self.now.readers.now self.now.writers.now self.now.n s result }
+    {
+        let mut c: u32 = 0;
+        for i in 0..self.n {
+            let on = sets::has(s, self.writers[i] as usize)
+                & !sets::has(s, self.readers[i] as usize);
+            c |= sets::only(on, self.between[i]);
+        }
+        c
+    }
 }
 
-// As `through` there.
-fn through_listed(
-    k: usize,
-    m: usize,
-    before: &[u32; SLOTS],
-    between: &[u32; LIST],
-    readers: &[u8; LIST],
-    writers: &[u8; LIST],
-    n: usize,
-    scratch: &mut [u8],
-    path: &mut [u8],
-) -> bool
-    requires { Clean k m scratch.old × (slots ≤ length path.old) × (n ≤ list_room) }
-    ensures { Searched (tabled m before.now (listed_bars between.now readers.now writers.now n)) k scratch.old result scratch.new path.new }
-{
-    let mut f = [0u32; SLOTS];
-    if force::by_list(k, m, before, between, readers, writers, n, &mut f) {
-        return false;
-    }
-    let found = walk_listed(k, m, &f, between, readers, writers, n, scratch, path);
-    let need = marks::needed(m - k);
-    marks::clear(scratch, need); // the marks of this walk
-    found
-}
+impl<'a> Bars for Entries<'a> {
+    ghost masks = { λ l. listed_bars l.between.now l.readers.now l.writers.now l.n };
 
-// As `search` there.
-fn search_listed(
-    k: usize,
-    m: usize,
-    before: &[u32; SLOTS],
-    between: &[u32; LIST],
-    readers: &[u8; LIST],
-    writers: &[u8; LIST],
-    n: usize,
-    scratch: &mut [u8],
-    path: &mut [u8],
-) -> bool
-    requires { Fits k m (length scratch.old) × (slots ≤ length path.old) × (n ≤ list_room) }
-    ensures { Searched (tabled m before.now (listed_bars between.now readers.now writers.now n)) k scratch.old result scratch.new path.new }
-{
-    let need = marks::needed(m - k);
-    marks::clear(scratch, need); // whatever it held, here too
-    if glide(k, m, before, between, readers, writers, n, path) {
-        return true;
+    ghost ready = { λ m l. Unit };
+
+    fn gather(&mut self, m: usize) {}
+
+    fn lowest(&self, k: usize, m: usize, before: &[u32; SLOTS], s: u32) -> Option<usize> {
+        let left = sets::rest(s, k, m) & !self.barred(s);
+        lowest_of(m, before, s, left)
     }
-    through_listed(k, m, before, between, readers, writers, n, scratch, path)
+
+    fn next(
+        &self,
+        k: usize,
+        m: usize,
+        before: &[u32; SLOTS],
+        table: &[u8],
+        s: u32,
+        from: usize,
+    ) -> Option<usize> {
+        let left = sets::rest(s, from, m) & !self.barred(s);
+        next_of(k, m, before, table, s, left)
+    }
+
+    fn force(&self, k: usize, m: usize, before: &[u32; SLOTS], f: &mut [u32; SLOTS]) -> bool {
+        force::by_list(
+            k,
+            m,
+            before,
+            self.between,
+            self.readers,
+            self.writers,
+            self.n,
+            f,
+        )
+    }
 }
 
 // As `walks::seek`, by a list of bars, of which the first n entries count, as far as there is room for them. No table is made.
@@ -250,11 +154,6 @@ pub fn seek(
 ) -> bool
     ensures { Sought inits events before.now (listed_bars between.now readers.now writers.now (min n list_room)) scratch.old path.old result scratch.new path.new }
 {
-    if !orders::fits(inits, events, scratch.len()) {
-        return false;
-    }
-    let entries = sets::least(n, LIST);
-    search_listed(
-        inits, events, before, between, readers, writers, entries, scratch, path,
-    )
+    let mut entries = Entries::new(between, readers, writers, n);
+    walks::seek_by(inits, events, before, &mut entries, scratch, path)
 }

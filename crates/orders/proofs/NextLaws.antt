@@ -1,6 +1,6 @@
 -- The next event as a walk knows it. Assumes nothing.
 --     stand_ready   the lowest event that can be placed and leads to a set that is not marked
---     stand_next    the same by a table of bars
+--     free_next stand_next    the same by a table of bars
 use Prim.Native.Nat.{ℕ, ◌%◌, ◌<◌, ◌≤◌}
 use mathlib.Core.Path.{◌≡◌, sym, ap, ◌∙◌}
 use mathlib.Core.Bool.{true}
@@ -38,16 +38,20 @@ module _ {P : Problem} {k : ℕ} {table₀ path₀ table path : List ℕ} {s dep
           let b : d < slots = let y = n.bound in let z = st.events in omega (arith, y, z) in
           sym (slot d a b) ∙ n.tried d a l q
 
+-- by a table of bars
+pub free_next : {m k : ℕ} {before bars writers table : List ℕ} {s from r : ℕ} → m ≤ slots → Gathered m bars writers → NextFree k m before bars writers table s from r
+    → NextReady (tabled m before bars) (is_seen k table s) s from r
+free_next events all n =
+    record {
+      bound = n.bound;
+      place = λ h. (n.place h).0;
+      ready = λ h. free_ready all h (n.free h);
+      unseen = n.unseen;
+      tried = λ d a l q. n.tried d a l (let y = n.bound in omega (arith, y, events)) (ready_free all q);
+    }
+
 module _ {m : ℕ} {before bars writers : List ℕ} (all : Gathered m bars writers) {k : ℕ} {table₀ path₀ table path : List ℕ} {s depth from r : ℕ}
     (st : Starting (tabled m before bars) k table₀ path₀) (g : Stand (tabled m before bars) k table₀ table path s depth from)
     (n : NextFree (k % slots) m before bars writers table s from r) where
   pub stand_next : NextIs (tabled m before bars) k table s r
-  stand_next =
-      stand_ready st g
-      (record {
-        bound = n.bound;
-        place = λ h. (n.place h).0;
-        ready = λ h. free_ready all h (n.free h);
-        unseen = n.unseen;
-        tried = λ d a l q. n.tried d a l (let y = n.bound in let z = st.events in omega (arith, y, z)) (ready_free all q);
-      })
+  stand_next = stand_ready st g (free_next st.events all n)

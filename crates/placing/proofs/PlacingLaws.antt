@@ -2,16 +2,18 @@
 --     next_unique                      the next event
 --     lowest_unique                    the lowest that can be placed
 --     entered_unique                   a step on
+--     found_map                        what is said of an event that is found, or of none
 --     looked                           the set that is looked up, as the code has it
 use Prim.Native.Nat.{ℕ, ◌%◌, ◌<◌}
 use mathlib.Core.Path.{◌≡◌, sym, ap, ◌∙◌}
+use Rattle.std.specs.Prelude.{Option, None, Some}
 use mathlib.Core.List.{List}
 use native.Mathlib.Nat.{mod-eq_of_lt}
 use native.Mathlib.Omega.{arith}
 use native.Mathlib.Decide.{dec_lt}
 use Rattle.basis.proofs.BoolLaws.{not_both_ways}
 use Rattle.sets.specs.Mask.{slots, insert, above}
-use Rattle.placing.specs.Placing.{NextFree, LowestFree, Entered}
+use Rattle.placing.specs.Placing.{FoundBelow, NextFree, LowestFree, Entered}
 
 pub looked : (s e k : ℕ) {w x : ℕ} → e < slots → w ≡ insert s (e % slots) → x ≡ above w k → x ≡ above (insert s e) k
 looked s e k h a b = b ∙ ap (λ (y : ℕ). above y k) (a ∙ ap (insert s) (mod-eq_of_lt h))
@@ -49,3 +51,7 @@ module _ {m : ℕ} {before bars writers : List ℕ} {s from : ℕ} where
 pub entered_unique : {k s e depth : ℕ} {table path : List ℕ} {r q : ℕ} {t u o p : List ℕ} → Entered k s e depth table path r t o
     → Entered k s e depth table path q u p → (r ≡ q) × (t ≡ u) × (o ≡ p)
 entered_unique a b = (a.grown ∙ sym b.grown, a.marked ∙ sym b.marked, a.stored ∙ sym b.stored)
+
+pub found_map : (m : ℕ) {P Q : ℕ → Type 0} → ((e : ℕ) → P e → Q e) → (r : Option ℕ) → FoundBelow m P r → FoundBelow m Q r
+found_map m f None h = f m h
+found_map m f (Some e) h = (h.0, f e h.1)

@@ -39,23 +39,25 @@ fn tally(
     let mut from = k;
     let mut n: usize = 1;
     loop {
-        let e = placing::next(k, m, before, bars, writers, table, s, from);
-        if e < m {
-            if limit <= n {
-                return Count::Over;
+        match placing::next(k, m, before, bars, writers, table, s, from) {
+            Some(e) => {
+                if limit <= n {
+                    return Count::Over;
+                }
+                s = placing::enter(k, s, e, table, path, depth);
+                depth += 1;
+                from = k;
+                n += 1;
             }
-            s = placing::enter(k, s, e, table, path, depth);
-            depth += 1;
-            from = k;
-            n += 1;
-        } else {
-            if depth == 0 {
-                return Count::All(n);
+            None => {
+                if depth == 0 {
+                    return Count::All(n);
+                }
+                depth -= 1;
+                let x = path[depth] as usize;
+                s = sets::without(s, x);
+                from = x + 1;
             }
-            depth -= 1;
-            let x = path[depth] as usize;
-            s = sets::without(s, x);
-            from = x + 1;
         }
     }
 }

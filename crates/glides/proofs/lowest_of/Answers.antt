@@ -1,50 +1,22 @@
--- `glides::lowest_of` meets its contract: each event below those that are left has been tried. `rest` gets smaller as a number. Assumes nothing.
-use mathlib.Core.Path.{refl, sym, ap, subst, ◌∙◌}
-use mathlib.Core.Bool.{false}
-use native.Mathlib.Nat.{mod-eq_of_lt}
-use native.Mathlib.Omega.{arith}
-use Rattle.sets.specs.Mask.{remove}
-use Rattle.glides.proofs.GlideLaws.{Unseen, unseen_start, unseen_slot, unseen_less, unseen_hit, unseen_next, unseen_end}
+-- `glides::lowest_of` meets its contract: each event below those that are left has been tried. Assumes nothing.
+use mathlib.Core.Path.{refl}
+use Rattle.glides.proofs.GlideLaws.{unseen_start, unseen_hit, unseen_taken, unseen_end}
 use Rattle.glides.proofs.lowest_of.Goals as goal
 
-pub loop-rest-init : goal.loop-rest-init
-loop-rest-init c =
+pub loop-v-init : goal.loop-v-init
+loop-v-init c =
     let a = c.args in
-    unseen_start a.m a.before.now a.s a.left c.ranges.left.fits c.requires
-
-pub offset_bounds-before-v : goal.offset_bounds-before-v
-offset_bounds-before-v c =
-    let a = c.args in
-    let l = unseen_slot a.m a.before.now a.s a.left c.ranges.left.fits c.loop-rest.invariant c.lowest-v.ensures c.loop-rest-test.true in
-    omega (arith, l)
-
-pub bounds-before-v : goal.bounds-before-v
-bounds-before-v c =
-    let a = c.args in
-    let l = unseen_slot a.m a.before.now a.s a.left c.ranges.left.fits c.loop-rest.invariant c.lowest-v.ensures c.loop-rest-test.true in
-    omega (arith, l)
+    rw (c.into_iter-v-iterator.ensures.into_iter_gives, c.members-v-items.ensures) (unseen_start a.m a.before.now a.s a.left c.ranges.left.fits c.requires)
 
 pub returns-then-subset : goal.returns-then-subset
 returns-then-subset c =
     let a = c.args in
-    unseen_hit a.m a.before.now a.s a.left c.ranges.left.fits c.loop-rest.invariant c.lowest-v.ensures c.loop-rest-test.true (c.subset.ensures.holds c.if-subset.true) refl
+    unseen_hit a.m a.before.now a.s a.left c.ranges.left.fits c.loop-v.invariant c.in-Some.ensures.steps (c.subset.ensures.holds c.if-subset.true) refl
 
-pub loop-rest-smaller : goal.loop-rest-smaller
-loop-rest-smaller c =
+pub loop-v-preserved : goal.loop-v-preserved
+loop-v-preserved c =
     let a = c.args in
-    let l = unseen_slot a.m a.before.now a.s a.left c.ranges.left.fits c.loop-rest.invariant c.lowest-v.ensures c.loop-rest-test.true in
-    let z = c.without-rest.ensures ∙ ap (remove c.loop-rest.rest) (mod-eq_of_lt l) in
-    let y = unseen_less a.m a.before.now a.s a.left c.ranges.left.fits c.loop-rest.invariant c.lowest-v.ensures c.loop-rest-test.true in
-    omega (arith, z, y)
-
-pub loop-rest-preserved : goal.loop-rest-preserved
-loop-rest-preserved c =
-    let a = c.args in
-    let l = unseen_slot a.m a.before.now a.s a.left c.ranges.left.fits c.loop-rest.invariant c.lowest-v.ensures c.loop-rest-test.true in
-    let z = c.without-rest.ensures ∙ ap (remove c.loop-rest.rest) (mod-eq_of_lt l) in
-    subst (Unseen a.m a.before.now a.s a.left (λ d. false)) (sym z) (unseen_next a.m a.before.now a.s a.left c.ranges.left.fits c.loop-rest.invariant c.lowest-v.ensures c.loop-rest-test.true (λ h. absurd (c.subset.ensures.fails c.if-subset.false h)))
+    unseen_taken a.m a.before.now a.s a.left c.ranges.left.fits c.loop-v.invariant c.in-Some.ensures.steps (λ h. absurd (c.subset.ensures.fails c.if-subset.false h))
 
 pub returns : goal.returns
-returns c =
-    let a = c.args in
-    unseen_end a.m a.before.now a.s a.left c.ranges.left.fits c.loop-rest.invariant c.loop-rest-test.false
+returns c = let a = c.args in unseen_end a.m a.before.now a.s a.left c.ranges.left.fits c.loop-v.invariant c.in-None.ensures.steps.0

@@ -8,8 +8,8 @@ use Rattle.orders.proofs.StandLaws.{Stand, left}
 use Rattle.reach.proofs.TallyLaws.{Tally}
 use Rattle.reach.proofs.tally.Given as goal
 
-abbrev pub invariant-loop-k : goal.invariant-loop-k
-invariant-loop-k l = Stand (tabled l.m l.before l.bars) l.k l.initial.table l.table l.path l.s l.depth l.from × Tally (tabled l.m l.before l.bars) l.k (take l.depth l.path) l.table l.n × (length l.path ≡ length l.initial.path) × (l.n ≤ l.limit)
+abbrev pub invariant-loop-e : goal.invariant-loop-e
+invariant-loop-e l = Stand (tabled l.m l.before l.bars) l.k l.initial.table l.table l.path l.s l.depth l.from × Tally (tabled l.m l.before l.bars) l.k (take l.depth l.path) l.table l.n × (length l.path ≡ length l.initial.path) × (l.n ≤ l.limit)
 
-abbrev pub decreases-loop-k : goal.decreases-loop-k
-decreases-loop-k l = left (l.m - l.k) l.table * 64 + l.depth
+abbrev pub decreases-loop-e : goal.decreases-loop-e
+decreases-loop-e l = left (l.m - l.k) l.table * 64 + l.depth

@@ -1,51 +1,52 @@
 -- `walks::descend` meets its contract: each event was the lowest that could be placed (`Going`). The way gets longer. Assumes nothing.
 use mathlib.Core.Path.{◌≡◌, refl, ap, ◌∙◌}
-use mathlib.Core.Bool.{false≢true}
-use Prim.Native.Nat.{◌-◌, ◌%◌, ◌<◌}
+use Prim.Native.Nat.{◌%◌}
 use native.Mathlib.Nat.{mod-eq_of_lt}
 use native.Mathlib.Omega.{arith}
 use lib.ListN.{length-set}
 use Rattle.sets.specs.Mask.{slots, insert}
 use Rattle.orders.specs.Tables.{tabled}
 use Rattle.orders.proofs.StandLaws.{full_slots}
-use Rattle.orders.proofs.DescendLaws.{free_lowest, going_start, going_on, going_deep, going_end}
+use Rattle.orders.proofs.WayLaws.{way_lt}
+use Rattle.orders.proofs.DescendLaws.{going_start, going_on, going_deep, going_end}
 use Rattle.walks.proofs.descend.Goals as goal
 
 pub loop-s-init : goal.loop-s-init
-loop-s-init c =
-    let e = c.full-s.ensures ∙ full_slots c.args.k (omega (arith, c.requires.0, c.requires.1)) in
-    (rw e (going_start (tabled c.args.m c.args.before.now c.args.bars.now) c.args.k c.requires.0 c.requires.1 c.args.path.now c.requires.2), refl)
+loop-s-init g c =
+    let a = c.args in
+    let e = c.full-s.ensures ∙ full_slots a.k (omega (arith, c.requires.0, c.requires.1)) in
+    (rw e (going_start (tabled a.m a.before.now (g.B.Bars.masks a.bars.now)) a.k c.requires.0 c.requires.1 a.path.now c.requires.2), refl)
 
-pub shape_of-path-then-m-e : goal.shape_of-path-then-m-e
-shape_of-path-then-m-e c = c.loop-s.invariant.1
-
-pub returns-then-m-e : goal.returns-then-m-e
-returns-then-m-e c = record { found = λ z. absurd (false≢true z) }
+pub lowest-requires : goal.lowest-requires
+lowest-requires g c = (c.requires.3, c.requires.1, way_lt c.requires.0 c.requires.1 c.loop-s.invariant.0.way)
 
 pub bounds-path-depth : goal.bounds-path-depth
-bounds-path-depth c =
-    let d = going_deep (tabled c.args.m c.args.before.now c.args.bars.now) c.args.k c.requires.0 c.requires.1 c.loop-s.invariant.0 (omega (arith, c.if-m-e.false)) (free_lowest c.args.m c.args.k c.args.before.now c.args.bars.now c.args.writers.now c.requires.1 c.requires.3 c.lowest-e.ensures) in
+bounds-path-depth g c =
+    let a = c.args in
+    let d = going_deep (tabled a.m a.before.now (g.B.Bars.masks a.bars.now)) a.k c.requires.0 c.requires.1 c.loop-s.invariant.0 c.in-Some.ensures.0 c.in-Some.ensures.1 in
     let z = c.loop-s.invariant.0.way.cells in
     omega (arith, d, z, c.requires.1)
 
 pub overflow_add-depth : goal.overflow_add-depth
-overflow_add-depth c = let z = c.loop-s.invariant.0.way.depth_le in omega (arith, z)
+overflow_add-depth g c = let z = c.loop-s.invariant.0.way.depth_le in omega (arith, z)
 
 pub loop-s-smaller : goal.loop-s-smaller
-loop-s-smaller c = let d = going_deep (tabled c.args.m c.args.before.now c.args.bars.now) c.args.k c.requires.0 c.requires.1 c.loop-s.invariant.0 (omega (arith, c.if-m-e.false)) (free_lowest c.args.m c.args.k c.args.before.now c.args.bars.now c.args.writers.now c.requires.1 c.requires.3 c.lowest-e.ensures) in omega (arith, d)
+loop-s-smaller g c =
+    let a = c.args in
+    let d = going_deep (tabled a.m a.before.now (g.B.Bars.masks a.bars.now)) a.k c.requires.0 c.requires.1 c.loop-s.invariant.0 c.in-Some.ensures.0 c.in-Some.ensures.1 in
+    omega (arith, d)
 
 pub loop-s-preserved : goal.loop-s-preserved
-loop-s-preserved c =
+loop-s-preserved g c =
+    let a = c.args in
     let l = c.loop-s in
-    let h : c.lowest-e.result < c.args.m = omega (arith, c.if-m-e.false) in
-    let g = going_on (tabled c.args.m c.args.before.now c.args.bars.now) c.args.k c.requires.0 c.requires.1 l.invariant.0 h (free_lowest c.args.m c.args.k c.args.before.now c.args.bars.now c.args.writers.now c.requires.1 c.requires.3 c.lowest-e.ensures) in
-    let slot : c.lowest-e.result % slots ≡ c.lowest-e.result = mod-eq_of_lt (omega (arith, h, c.requires.1)) in
-    (rw (c.with-s.ensures ∙ ap (insert l.s) slot) g, length-set l.path l.depth _ ∙ l.invariant.1)
-
-pub shape_of-path : goal.shape_of-path
-shape_of-path c = c.loop-s.invariant.1
+    let h = c.in-Some.ensures.0 in
+    let n = going_on (tabled a.m a.before.now (g.B.Bars.masks a.bars.now)) a.k c.requires.0 c.requires.1 l.invariant.0 h c.in-Some.ensures.1 in
+    let slot : c.in-Some.e % slots ≡ c.in-Some.e = mod-eq_of_lt (omega (arith, h, c.requires.1)) in
+    (rw (c.with-s.ensures ∙ ap (insert l.s) slot) n, length-set l.path l.depth _ ∙ l.invariant.1)
 
 pub returns : goal.returns
-returns c =
-    let e = c.full-all.ensures ∙ full_slots c.args.m c.requires.1 in
-    record { found = λ z. going_end (tabled c.args.m c.args.before.now c.args.bars.now) c.args.k c.requires.0 c.requires.1 c.loop-s.invariant.0 (c.loop-s-test.false ∙ e) }
+returns g c =
+    let a = c.args in
+    let e = c.full-all.ensures ∙ full_slots a.m c.requires.1 in
+    record { found = λ z. going_end (tabled a.m a.before.now (g.B.Bars.masks a.bars.now)) a.k c.requires.0 c.requires.1 c.loop-s.invariant.0 (c.loop-s-test.false ∙ e) }

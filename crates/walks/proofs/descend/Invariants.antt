@@ -7,7 +7,7 @@ use Rattle.orders.proofs.DescendLaws.{Going}
 use Rattle.walks.proofs.descend.Given as goal
 
 abbrev pub invariant-loop-s : goal.invariant-loop-s
-invariant-loop-s l = Going (tabled l.m l.before l.bars) l.k l.path l.s l.depth × (length l.path ≡ length l.initial.path)
+invariant-loop-s g l = Going (tabled l.m l.before (g.B.Bars.masks l.bars)) l.k l.path l.s l.depth × (length l.path ≡ length l.initial.path)
 
 abbrev pub decreases-loop-s : goal.decreases-loop-s
-decreases-loop-s l = l.m - l.depth
+decreases-loop-s g l = l.m - l.depth

@@ -9,7 +9,9 @@ use Rattle.orders.proofs.SeekLaws.{Seek}
 use Rattle.walks.proofs.walk.Given as goal
 
 abbrev pub invariant-loop-s : goal.invariant-loop-s
-invariant-loop-s l = Stand (tabled l.m l.before l.bars) l.k l.initial.table l.table l.path l.s l.depth l.from × Seek (tabled l.m l.before l.bars) l.k (take l.depth l.path) l.table × (length l.path ≡ length l.initial.path)
+invariant-loop-s g l =
+    let P = tabled l.m l.before (g.B.Bars.masks l.bars) in
+    Stand P l.k l.initial.table l.table l.path l.s l.depth l.from × Seek P l.k (take l.depth l.path) l.table × (length l.path ≡ length l.initial.path)
 
 abbrev pub decreases-loop-s : goal.decreases-loop-s
-decreases-loop-s l = left (l.m - l.k) l.table * 64 + l.depth
+decreases-loop-s g l = left (l.m - l.k) l.table * 64 + l.depth

@@ -12,8 +12,7 @@ use lib.ListN.{replicate}
 use Rattle.entries.specs.declared.Counts.{Counts}
 use Rattle.sets.specs.Mask.{slots}
 use Rattle.answer.specs.declared.Names.{Names}
-use Rattle.answer.specs.declared.Rule.{Rule}
-use Rattle.answer.specs.declared.Rule.TheVariants.{Kept, Breach}
+use Rattle.answer.specs.Rules.{Rule, unbreached, breach}
 use Rattle.answer.proofs.RulesLaws.{also_here, also_later}
 use Rattle.tables.specs.Tables.{row_room, pair_room, pair_cells}
 use Rattle.lay.specs.Lay.{pairs_put}
@@ -30,10 +29,10 @@ use Rattle.prepare.specs.Prepared.{Ruled, Readied}
 
 -- a broken rule is none that is kept
 whole : Rule → Bool
-whole Kept = true
-whole (Breach n names) = false
+whole unbreached = true
+whole (breach n names) = false
 
-breach_kept : {n : ℕ} {names : Names} → Breach n names ≡ Kept → ⊥
+breach_kept : {n : ℕ} {names : Names} → breach n names ≡ unbreached → ⊥
 unfolding whole
 breach_kept z = false≢true (ap whole z)
 
@@ -42,8 +41,8 @@ module _ (s : List ℕ) (x : Counts) (t q succ pred : List ℕ) where
   table = pairs_put s x (min x.pairs pair_room) (replicate pair_cells 0)
 
   -- 21 is broken, whatever happens before what
-  pub ruled_bytes : {n : ℕ} {names : Names} {rule : Rule} → rule ≡ rule21_in q (min x.rows row_room) → rule ≡ Breach n names → {succ' pred' : List ℕ}
-      → Ruled s x t q succ succ' pred pred' (Breach n names)
+  pub ruled_bytes : {n : ℕ} {names : Names} {rule : Rule} → rule ≡ rule21_in q (min x.rows row_room) → rule ≡ breach n names → {succ' pred' : List ℕ}
+      → Ruled s x t q succ succ' pred pred' (breach n names)
   unfolding rule_in
   ruled_bytes e h =
       let m = steps_exist t (min x.events slots) q (min x.rows row_room) table (min x.pairs pair_room) succ pred in
@@ -57,20 +56,20 @@ module _ (s : List ℕ) (x : Counts) (t q succ pred : List ℕ) where
   -- 21 is kept, and then the other rules are asked
   pub ruled_rest : {p : List ℕ} → p ≡ table → {succ' pred' : List ℕ}
       → ClosedSteps t (min x.events slots) q (min x.rows row_room) p (min x.pairs pair_room) succ succ' pred pred'
-      → {rule : Rule} → rule ≡ rule21_in q (min x.rows row_room) → rule ≡ Kept
+      → {rule : Rule} → rule ≡ rule21_in q (min x.rows row_room) → rule ≡ unbreached
       → {r : Rule} → r ≡ rest_in t (min x.events slots) succ' pred' q (min x.rows row_room) → Ruled s x t q succ succ' pred pred' r
   unfolding rule_in
   ruled_rest e o kept is h = ruled_found e o (also_later (sym is ∙ kept) h)
 
-  pub readied_bytes : {n : ℕ} {names : Names} {rule : Rule} → rule ≡ rule21_in q (min x.rows row_room) → rule ≡ Breach n names
-      → {succ' pred' between readers writers : List ℕ} → Readied s x t q succ succ' pred pred' (record { rule = Breach n names; count = list_room }) between readers writers
+  pub readied_bytes : {n : ℕ} {names : Names} {rule : Rule} → rule ≡ rule21_in q (min x.rows row_room) → rule ≡ breach n names
+      → {succ' pred' between readers writers : List ℕ} → Readied s x t q succ succ' pred pred' (record { rule = breach n names; count = list_room }) between readers writers
   readied_bytes e h = record { ruled = ruled_bytes e h; listed = λ k. absurd (breach_kept k) }
 
   module _ {p : List ℕ} (e : p ≡ table) {succ' pred' : List ℕ}
       (o : ClosedSteps t (min x.events slots) q (min x.rows row_room) p (min x.pairs pair_room) succ succ' pred pred')
-      {rule : Rule} (kept : rule ≡ rule21_in q (min x.rows row_room)) (is : rule ≡ Kept) {between readers writers : List ℕ} where
+      {rule : Rule} (kept : rule ≡ rule21_in q (min x.rows row_room)) (is : rule ≡ unbreached) {between readers writers : List ℕ} where
     module _ {f : Sifted} (found : Sieve t (min x.events slots) succ' pred' q x.inits (min x.rows row_room) f between readers writers) where
-      pub readied_clean : f.clean ≡ true → Readied s x t q succ succ' pred pred' (record { rule = Kept; count = f.count }) between readers writers
+      pub readied_clean : f.clean ≡ true → Readied s x t q succ succ' pred pred' (record { rule = unbreached; count = f.count }) between readers writers
       unfolding rule_in
       readied_clean h =
           record { ruled = ruled_found e o (also_later (sym is ∙ kept) (sym (found.kept h))); listed = λ k. (f, found, sym (ap (λ (b : Bool). cond b f.count list_room) h)) }
@@ -82,7 +81,7 @@ module _ (s : List ℕ) (x : Counts) (t q succ pred : List ℕ) where
 
 -- a list with room left is that of the pass
 pub readied_listed : {s : List ℕ} {x : Counts} {t q succ succ' pred pred' : List ℕ} {r : Found} {between readers writers : List ℕ}
-    → Readied s x t q succ succ' pred pred' r between readers writers → r.rule ≡ Kept → r.count < list_room
+    → Readied s x t q succ succ' pred pred' r between readers writers → r.rule ≡ unbreached → r.count < list_room
     → Listed t (equals_in t (min x.events slots)) succ' pred' q x.inits (min x.rows row_room) r.count between readers writers
 readied_listed {x = x} {t} {q} {succ' = succ'} {pred' = pred'} {r = r} {between} {readers} {writers} w k room =
     let f = w.listed k in go f.0 f.1 f.2 f.0.clean refl
@@ -100,7 +99,7 @@ pub record Same {s : List ℕ} {x : Counts} {t q succ succ' pred pred' next prio
   pub after : z.after ≡ w.after
   pub before : z.before ≡ w.before
   pub rule : r ≡ a
-  pub masks : r ≡ Kept → (succ' ≡ next) × (pred' ≡ prior)
+  pub masks : r ≡ unbreached → (succ' ≡ next) × (pred' ≡ prior)
 
 module _ {s : List ℕ} {x : Counts} {t q succ succ' pred pred' next prior : List ℕ} {r a : Rule} (w : Ruled s x t q succ succ' pred pred' r)
     (z : Ruled s x t q succ next pred prior a) where

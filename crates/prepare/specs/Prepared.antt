@@ -7,8 +7,7 @@
 use Rattle.std.specs.Prelude.{◌≡◌, List, cond, ℕ, min, replicate}
 use Rattle.entries.specs.declared.Counts.{Counts}
 use Rattle.sets.specs.Mask.{slots}
-use Rattle.answer.specs.declared.Rule.{Rule}
-use Rattle.answer.specs.declared.Rule.TheVariants.{Kept}
+use Rattle.answer.specs.Rules.{Rule, unbreached}
 use Rattle.tables.specs.Tables.{row_room, pair_room, pair_cells}
 use Rattle.lay.specs.Lay.{pairs_put}
 use Rattle.before.specs.Before.{ClosedSteps}
@@ -25,11 +24,11 @@ pub record Ruled (s : List ℕ) (x : Counts) (t q succ succ' pred pred' : List �
   pub before : List ℕ
   pub ordered : ClosedSteps t (min x.events slots) q (min x.rows row_room) p (min x.pairs pair_room) succ after pred before
   pub says : r ≡ rule_in t (min x.events slots) after before q (min x.rows row_room)
-  pub left : r ≡ Kept → (succ' ≡ after) × (pred' ≡ before)
+  pub left : r ≡ unbreached → (succ' ≡ after) × (pred' ≡ before)
 
 -- the list is that of one pass, where it was clean; `list_room` says that there is none
 pub record Readied (s : List ℕ) (x : Counts) (t q succ succ' pred pred' : List ℕ) (r : Found) (between readers writers : List ℕ) : Type 0 where
   pub ruled : Ruled s x t q succ succ' pred pred' r.rule
-  pub listed : r.rule ≡ Kept → (f : Sifted)
+  pub listed : r.rule ≡ unbreached → (f : Sifted)
       × Sieve t (min x.events slots) succ' pred' q x.inits (min x.rows row_room) f between readers writers
       × (r.count ≡ cond f.clean f.count list_room)

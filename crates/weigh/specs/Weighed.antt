@@ -11,8 +11,7 @@ use Rattle.marks.specs.Table.{cleared}
 use Rattle.answer.specs.declared.Answer.{Answer}
 use Rattle.answer.specs.declared.Answer.TheVariants.{Broken}
 use Rattle.answer.specs.declared.Names.{Names}
-use Rattle.answer.specs.declared.Rule.{Rule}
-use Rattle.answer.specs.declared.Rule.TheVariants.{Kept, Breach}
+use Rattle.answer.specs.Rules.{Rule, unbreached, breach}
 use Rattle.tables.specs.Tables.{row_room, pair_room, pair_cells}
 use Rattle.lay.specs.Lay.{pairs_put}
 use Rattle.before.specs.Before.{ClosedSteps}
@@ -29,8 +28,8 @@ pub record Breached (need number : ℕ) (names : Names) (scratch order : List �
   pub order_kept : order' ≡ order
 
 abbrev pub Decided : (k n m : ℕ) (t q succ pred : List ℕ) (need : ℕ) (scratch order : List ℕ) → Rule → (r : Answer) (scratch' order' : List ℕ) → Type 0
-Decided k n m t q succ pred need scratch order (Breach number names) r scratch' order' = Breached need number names scratch order r scratch' order'
-Decided k n m t q succ pred need scratch order Kept r scratch' order' = Arranged k n m t q succ pred scratch order r scratch' order'
+Decided k n m t q succ pred need scratch order (breach number names) r scratch' order' = Breached need number names scratch order r scratch' order'
+Decided k n m t q succ pred need scratch order unbreached r scratch' order' = Arranged k n m t q succ pred scratch order r scratch' order'
 
 pub record Weighed (s : List ℕ) (x : Counts) (t q : List ℕ) (need : ℕ) (scratch order : List ℕ) (r : Answer) (scratch' order' : List ℕ) : Type 0 where
   pub p : List ℕ

@@ -16,6 +16,7 @@ use Rattle.tables.specs.Tables.{columns, row_room, row_cells, pair_cells}
 use Rattle.lay.specs.Lay.{events_put, rows_put, Layered}
 use Rattle.answer.specs.declared.Names.{Names}
 use Rattle.answer.specs.declared.Answer.{Answer}
+use Rattle.std.specs.Prelude.{Ok, Err}
 use Rattle.answer.specs.Rules.{Rule, unbreached, breach}
 use Rattle.model.specs.Rules.{faulty, fault}
 use Rattle.model.specs.Judged.{JudgedBroken, Judged}
@@ -68,8 +69,8 @@ module _ {s : List ℕ} {x : Counts} {at : List ℕ} {need : ℕ} {scratch order
 
   judged : (i : Rule) → rule ≡ i → Decided x.inits x.events x.rows t q w.succ w.pred need scratch order i r scratch' order'
       → Judged s scratch order r scratch' order'
-  judged unbreached k d = arranged_judged (unbroken k) d
-  judged (breach n names) k b = subst (λ (z : Answer). Judged s scratch order z scratch' order') (sym b.says) (broken k b)
+  judged (Ok u) k d = arranged_judged (unbroken k) d
+  judged (Err e) k b = subst (λ (z : Answer). Judged s scratch order z scratch' order') (sym b.says) (broken {n = e.number} {names = e.names} k b)
 
   pub weighed_judged : Judged s scratch order r scratch' order'
   weighed_judged = judged rule refl w.decided

@@ -22,11 +22,11 @@ pub enum Names {
     Nobody,
 }
 
-// What a rule finds: nothing, or its number and its names.
+// A broken rule: its number, and its names.
 #[derive(Clone, Copy)]
-pub enum Rule {
-    Kept,
-    Breach(u8, Names),
+pub struct Breach {
+    pub number: u8,
+    pub names: Names,
 }
 
 // Whether a consistent sheet has an unsettled pair, and the lowest.

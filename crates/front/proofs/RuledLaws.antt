@@ -23,8 +23,7 @@ use Rattle.format.proofs.EventLaws.{writes_at_nobody}
 use Rattle.format.proofs.ExecutionLaws.{event_inside}
 use Rattle.answer.specs.declared.Names.{Names}
 use Rattle.answer.specs.declared.Names.TheVariants.{Row as OfRow, Event as OfEvent, Between}
-use Rattle.answer.specs.declared.Rule.TheVariants.{Kept, Breach}
-use Rattle.answer.specs.Rules.{named}
+use Rattle.answer.specs.Rules.{unbreached, breach, named}
 use Rattle.sets.specs.Mask.{slots, mem}
 use Rattle.sets.proofs.MaskLaws.{mem_and}
 use Rattle.cells.specs.First.{first_of, First}
@@ -37,11 +36,11 @@ use Rattle.rules.specs.Rules.{unlike_in, cyclic_in, turned_in, between_in, over_
 use Rattle.front.specs.Tabled.{Tabled, Rowed, Seen, hb_of, Turned, found_of}
 
 module _ (p : ℕ → Bool) (n k : ℕ) (g : ℕ → Names) where
-  pub found_named : found_of (named (first_of p n) n (Breach k (g (first_of p n)))) ≡ mapped (λ (j : ℕ). faulty k (g j)) (find p (from 0 n))
+  pub found_named : found_of (named (first_of p n) n (breach k (g (first_of p n)))) ≡ mapped (λ (j : ℕ). faulty k (g j)) (find p (from 0 n))
   unfolding mapped
   found_named = go (ltb (first_of p n) n) ∙ ap (mapped (λ (j : ℕ). faulty k (g j))) (sym (first_find p n))
     where
-      go : (b : Bool) → found_of (cond b (Breach k (g (first_of p n))) Kept) ≡ mapped (λ (j : ℕ). faulty k (g j)) (cond b (some (first_of p n)) none)
+      go : (b : Bool) → found_of (cond b (breach k (g (first_of p n))) unbreached) ≡ mapped (λ (j : ℕ). faulty k (g j)) (cond b (some (first_of p n)) none)
       go true = refl
       go false = refl
 

@@ -8,9 +8,8 @@ use Rattle.basis.specs.Test.{◌else◌}
 use Rattle.format.specs.Execution.{Execution}
 use Rattle.model.specs.Rules.{Fault, fault21, fault22, fault23, fault24, fault25, fault}
 use Rattle.model.proofs.Sound.{Sound}
-use Rattle.answer.specs.declared.Rule.{Rule}
-use Rattle.answer.specs.declared.Rule.TheVariants.{Kept, Breach}
-use Rattle.answer.specs.Rules.{◌also◌}
+use Rattle.std.specs.Prelude.{Ok, Err}
+use Rattle.answer.specs.Rules.{Rule, ◌also◌}
 use Rattle.torn.specs.Torn.{rule25_in}
 use Rattle.rules.specs.Rules.{rule21_in, rule22_in, rule23_in, rule24_in, rest_in, rule_in}
 use Rattle.front.specs.Tabled.{Tabled, Rowed, Seen, hb_of, Turned, found_of}
@@ -19,8 +18,8 @@ use Rattle.front.proofs.TornLaws.{ruled25}
 
 found_also : (a b : Rule) → found_of (a also b) ≡ (found_of a else found_of b)
 unfolding ◌also◌ ◌else◌
-found_also Kept b = refl
-found_also (Breach n names) b = refl
+found_also (Ok u) b = refl
+found_also (Err e) b = refl
 
 -- one rule after another
 then_by : (a b : Rule) (f g : Option Fault) → found_of a ≡ f → found_of b ≡ g → found_of (a also b) ≡ (f else g)

@@ -23,8 +23,8 @@ use Rattle.sets.specs.Mask.{slots, mem}
 use Rattle.model.specs.Happens.{Tests}
 use Rattle.model.specs.Rules.{Fault, faulty}
 use Rattle.tables.specs.Tables.{agent_in, shape_in, at_in, row_room, row_in, seen_in, wrote_in, pair_in}
-use Rattle.answer.specs.declared.Rule.{Rule}
-use Rattle.answer.specs.declared.Rule.TheVariants.{Kept, Breach}
+use Rattle.std.specs.Prelude.{Ok, Err}
+use Rattle.answer.specs.Rules.{Rule}
 
 -- event e's only access, in its first slot
 pub record Single (t : List ℕ) (e : ℕ) (l : List Access) : Type 0 where
@@ -78,8 +78,8 @@ pub record Seen (x : Execution) (q : List ℕ) (m : ℕ) : Type 0 where
   pub wrote : (j : ℕ) → j < m → wrote_in q j ≡ wrote (event x (row_in q j).writer) (row_in q j).address
 
 abbrev pub found_of : Rule → Option Fault
-found_of Kept = none
-found_of (Breach n names) = some (faulty n names)
+found_of (Ok u) = none
+found_of (Err e) = some (faulty e.number e.names)
 
 -- what the judge's later steps start from, when the tables are filled: how they were filled is no longer said
 pub record Held (x : Execution) (n m : ℕ) (t q succ pred : List ℕ) : Type 0 where

@@ -16,8 +16,8 @@ use Rattle.tables.specs.Tables.{columns, row_room, row_cells, pair_cells}
 use Rattle.lay.specs.Lay.{events_put, rows_put, Layered}
 use Rattle.answer.specs.declared.Names.{Names}
 use Rattle.answer.specs.declared.Answer.{Answer}
-use Rattle.answer.specs.declared.Rule.{Rule}
-use Rattle.answer.specs.declared.Rule.TheVariants.{Kept, Breach}
+use Rattle.std.specs.Prelude.{Ok, Err}
+use Rattle.answer.specs.Rules.{Rule, unbreached, breach}
 use Rattle.model.specs.Rules.{faulty, fault}
 use Rattle.model.specs.Judged.{JudgedBroken, Judged}
 use Rattle.model.proofs.JudgedLaws.{admitted_whole}
@@ -44,7 +44,7 @@ module _ {s : List ℕ} {x : Counts} {at : List ℕ} {need : ℕ} {scratch order
   found : found_of rule ≡ fault (execution s x at) (hb_of w.succ)
   found = sheet_rules a.laid well laid w.ordered
 
-  unbroken : rule ≡ Kept → Unbroken s x.inits x.events x.rows t q w.succ w.pred scratch order
+  unbroken : rule ≡ unbreached → Unbroken s x.inits x.events x.rows t q w.succ w.pred scratch order
   unbroken k =
       record {
         execution = execution s x at;
@@ -54,7 +54,7 @@ module _ {s : List ℕ} {x : Counts} {at : List ℕ} {need : ℕ} {scratch order
         kept = sym found ∙ ap found_of k;
       }
 
-  broken : {n : ℕ} {names : Names} → rule ≡ Breach n names → Breached need n names scratch order r scratch' order'
+  broken : {n : ℕ} {names : Names} → rule ≡ breach n names → Breached need n names scratch order r scratch' order'
       → JudgedBroken s scratch order (faulty n names) scratch' order'
   broken k b =
       record {
@@ -69,8 +69,8 @@ module _ {s : List ℕ} {x : Counts} {at : List ℕ} {need : ℕ} {scratch order
 
   judged : (i : Rule) → rule ≡ i → Decided x.inits x.events x.rows t q w.succ w.pred need scratch order i r scratch' order'
       → Judged s scratch order r scratch' order'
-  judged Kept k d = arranged_judged (unbroken k) d
-  judged (Breach n names) k b = subst (λ (z : Answer). Judged s scratch order z scratch' order') (sym b.says) (broken k b)
+  judged (Ok u) k d = arranged_judged (unbroken k) d
+  judged (Err e) k b = subst (λ (z : Answer). Judged s scratch order z scratch' order') (sym b.says) (broken {n = e.number} {names = e.names} k b)
 
   pub weighed_judged : Judged s scratch order r scratch' order'
   weighed_judged = judged rule refl w.decided

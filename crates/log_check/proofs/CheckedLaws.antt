@@ -17,8 +17,7 @@ use Rattle.parse.proofs.PromiseLaws.{promise}
 use Rattle.sheet.specs.Handed.{HandedWhole}
 use Rattle.sets.specs.Mask.{slots}
 use Rattle.answer.specs.declared.Names.{Names}
-use Rattle.answer.specs.declared.Rule.{Rule}
-use Rattle.answer.specs.declared.Rule.TheVariants.{Kept, Breach}
+use Rattle.answer.specs.Rules.{Rule, unbreached, breach}
 use Rattle.tables.specs.Tables.{columns, row_room, row_cells, pair_cells}
 use Rattle.lay.specs.Lay.{events_put, rows_put, Layered}
 use Rattle.prepare.specs.Prepared.{Ruled}
@@ -57,7 +56,7 @@ module _ {s : List ℕ} {x : Counts} {at : List ℕ} (h : HandedWhole s x at) {t
   found : found_of rule ≡ fault X (hb_of w.after)
   found = ap found_of w.says ∙ sheet_rules h.laid well laid w.ordered
 
-  pub checked_broken : {n : ℕ} {names : Names} → rule ≡ Breach n names → CheckedBroken s (faulty n names)
+  pub checked_broken : {n : ℕ} {names : Names} → rule ≡ breach n names → CheckedBroken s (faulty n names)
   checked_broken k =
       record { execution = X; describes = h.says; hb = hb_of w.after; tests = held.tests; breaks = sym found ∙ ap found_of k }
 
@@ -73,7 +72,7 @@ module _ {s : List ℕ} {x : Counts} {at : List ℕ} (h : HandedWhole s x at) {t
       (λ d v i k. held_row held (sound X well) d (subst (λ (z : List Row). Memᴰ d z) (sym held.rowed) i) v (omega arith)) l
       ∙ ap₂ (λ (n : ℕ) (z : List Row). list_fault (record { events = n; before = hb_of w.after; rows = z; bars = row_bars X (hb_of w.after) }) l) (sym held.tabled.count) (sym held.rowed)
 
-  pub checked_list : rule ≡ Kept → (l : List ℕ) {said : Said} → said ≡ said_of (list_fault (trial_in (min x.events slots) t succ pred q (min x.rows row_room)) l)
+  pub checked_list : rule ≡ unbreached → (l : List ℕ) {said : Said} → said ≡ said_of (list_fault (trial_in (min x.events slots) t succ pred q (min x.rows row_room)) l)
       → CheckedList s l said
   checked_list k l e =
       record {

@@ -9,7 +9,7 @@ ghost use Rattle.log_check.specs.Checked.{Checked};
 ghost use Rattle.answer.specs.Word.{word};
 ghost use Rattle.log_check.specs.Word.{fault_number, fault_rest, said_word, checked_word};
 
-use answer::{Names, Rule};
+use answer::Names;
 use entries::Counts;
 use log_order::{Fault, Said};
 use sets::SLOTS;
@@ -35,8 +35,8 @@ fn weigh(s: &[u8], x: Counts, t: &[u8; COLUMNS], q: &[u8; ROW_CELLS], list: &[u8
     let mut pred = [0u32; SLOTS];
     let rule = prepare::rule(s, x, t, q, &mut succ, &mut pred);
     match rule {
-        Rule::Breach(n, names) => Reply::Broken(n, names),
-        Rule::Kept => Reply::Listed(log_order::check(events, t, &succ, &pred, q, rows, list)),
+        Err(broken) => Reply::Broken(broken.number, broken.names),
+        Ok(()) => Reply::Listed(log_order::check(events, t, &succ, &pred, q, rows, list)),
     }
 }
 

@@ -11,18 +11,11 @@ ghost use Rattle.lay.specs.Lay.{pairs_put};
 ghost use Rattle.before.specs.Before.{ClosedSteps};
 ghost use Rattle.prepare.specs.Prepared.{Ruled, Readied};
 
-use answer::Rule;
+use answer::Breach;
 use bars::LIST;
 use entries::Counts;
 use sets::SLOTS;
 use tables::{COLUMNS, PAIR_CELLS, ROW_CELLS};
-
-// The first broken rule; where there is none, how many bars are listed, `LIST` where the list is not all.
-#[derive(Clone, Copy)]
-pub struct Found {
-    pub rule: Rule,
-    pub count: usize,
-}
 
 // Happens-before, by rows and by columns, of the tables and of the sheet's pairs.
 fn order(
@@ -43,7 +36,8 @@ fn order(
     before::fill(t, events, q, rows, &p, pairs, succ, pred);
 }
 
-// The first broken rule; where none is, happens-before by rows and by columns is left in what was lent, and a list of bars.
+// The first broken rule; where none is, happens-before by rows and by columns is left in what was lent, and where one pass over the rows told so a list
+// of bars: how many entries it has.
 pub fn ready(
     s: &[u8],
     x: Counts,
@@ -54,34 +48,22 @@ pub fn ready(
     between: &mut [u32; LIST],
     readers: &mut [u8; LIST],
     writers: &mut [u8; LIST],
-) -> Found
+) -> Result<Option<usize>, Breach>
     ensures { Readied s.now x t.now q.now succ.old succ.new pred.old pred.new result between.new readers.new writers.new }
 {
     let inits = x.inits as usize;
     let events = x.events as usize;
     let rows = x.rows as usize;
-    let bytes = rules::bytes(q, rows);
-    if let Rule::Breach(n, names) = bytes {
-        return Found {
-            rule: Rule::Breach(n, names),
-            count: LIST,
-        };
-    }
+    rules::bytes(q, rows)?;
     order(s, x, t, q, succ, pred);
-    let sifted = sift::sift(
+    let listed = sift::sift(
         inits, t, events, succ, pred, q, rows, between, readers, writers,
     );
-    if sifted.clean {
-        return Found {
-            rule: Rule::Kept,
-            count: sifted.count,
-        };
+    if let Some(count) = listed {
+        return Ok(Some(count));
     }
-    let rule = rules::rest(t, events, succ, pred, q, rows);
-    Found {
-        rule: rule,
-        count: LIST,
-    }
+    rules::rest(t, events, succ, pred, q, rows)?;
+    Ok(None)
 }
 
 // The same without a list. Where none is wanted the rules one after another take less time than the pass.
@@ -92,15 +74,12 @@ pub fn rule(
     q: &[u8; ROW_CELLS],
     succ: &mut [u32; SLOTS],
     pred: &mut [u32; SLOTS],
-) -> Rule
+) -> Result<(), Breach>
     ensures { Ruled s.now x t.now q.now succ.old succ.new pred.old pred.new result }
 {
     let n = x.events as usize;
     let m = x.rows as usize;
-    let bytes = rules::bytes(q, m);
-    if let Rule::Breach(number, names) = bytes {
-        return Rule::Breach(number, names);
-    }
+    rules::bytes(q, m)?;
     order(s, x, t, q, succ, pred);
     rules::rest(t, n, succ, pred, q, m)
 }

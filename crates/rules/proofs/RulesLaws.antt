@@ -12,7 +12,7 @@ use lib.ListN.{get_or}
 use Rattle.basis.specs.Test.{non}
 use Rattle.format.specs.declared.Row.{Row}
 use Rattle.answer.specs.declared.Names.TheVariants.{Row as OfRow, Event as OfEvent, Between}
-use Rattle.answer.specs.declared.Rule.TheVariants.{Kept, Breach}
+use Rattle.answer.specs.Rules.{unbreached, breach}
 use Rattle.answer.proofs.RulesLaws.{named_yes, named_no}
 use Rattle.sets.specs.Mask.{slots, mem}
 use Rattle.std.specs.Prelude.{Option, Some, None}
@@ -58,50 +58,50 @@ module _ (q : List ℕ) (n j : ℕ) (room : n ≤ row_room) (r : Row) (row : r �
   at_first : (k : ℕ) → j ≡ k → j < n → r ≡ row_in q k
   at_first k e h = row_at_lem q j (omega arith) r row ∙ ap (row_in q) e
 
-  pub rule21_yes : (o : Option ℕ) → o ≡ first_some (unlike_in q) n → o ≡ Some j → Breach 21 (OfRow r.reader r.writer r.address) ≡ rule21_in q n
+  pub rule21_yes : (o : Option ℕ) → o ≡ first_some (unlike_in q) n → o ≡ Some j → breach 21 (OfRow r.reader r.writer r.address) ≡ rule21_in q n
   unfolding rule21_in
   rule21_yes o f g =
       let k = some_is (unlike_in q) n o j f g in
-      ap (λ (x : Row). Breach 21 (OfRow x.reader x.writer x.address)) (at_first (first_of (unlike_in q) n) k.0 k.1)
+      ap (λ (x : Row). breach 21 (OfRow x.reader x.writer x.address)) (at_first (first_of (unlike_in q) n) k.0 k.1)
       ∙ named_yes (first_of (unlike_in q) n) n _ (omega arith)
 
-  pub rule23_yes : (succ : List ℕ) (o : Option ℕ) → o ≡ first_some (turned_in q succ) n → o ≡ Some j → Breach 23 (OfRow r.reader r.writer r.address) ≡ rule23_in q n succ
+  pub rule23_yes : (succ : List ℕ) (o : Option ℕ) → o ≡ first_some (turned_in q succ) n → o ≡ Some j → breach 23 (OfRow r.reader r.writer r.address) ≡ rule23_in q n succ
   unfolding rule23_in
   rule23_yes succ o f g =
       let k = some_is (turned_in q succ) n o j f g in
-      ap (λ (x : Row). Breach 23 (OfRow x.reader x.writer x.address)) (at_first (first_of (turned_in q succ) n) k.0 k.1)
+      ap (λ (x : Row). breach 23 (OfRow x.reader x.writer x.address)) (at_first (first_of (turned_in q succ) n) k.0 k.1)
       ∙ named_yes (first_of (turned_in q succ) n) n _ (omega arith)
 
   pub rule24_yes : (t succ pred : List ℕ) (v : ℕ) → j < n → ((d : ℕ) → d < j → over_in t q succ pred d ≡ false) → (v ≡ first_of (between_in t succ pred (row_in q j)) slots) × (v < slots)
-      → Breach 24 (Between r.reader r.writer v r.address) ≡ rule24_in t q n succ pred
+      → breach 24 (Between r.reader r.writer v r.address) ≡ rule24_in t q n succ pred
   unfolding rule24_in over_in
   rule24_yes t succ pred v h before f =
       let yes : over_in t q succ pred j ≡ true = let a = f.0 in let b = f.1 in lt-ltb (first_of (between_in t succ pred (row_in q j)) slots) slots (omega arith) in
       let e : j ≡ first_of (over_in t q succ pred) n = first_found (over_in t q succ pred) n j h before yes in
-      ap (λ (x : ℕ). Breach 24 (Between r.reader r.writer x r.address)) f.0
-      ∙ ap (λ (x : Row). Breach 24 (Between x.reader x.writer (first_of (between_in t succ pred (row_in q j)) slots) x.address)) (row_at_lem q j (omega arith) r row)
-      ∙ ap (λ (k : ℕ). Breach 24 (Between (row_in q k).reader (row_in q k).writer (first_of (between_in t succ pred (row_in q k)) slots) (row_in q k).address)) e
+      ap (λ (x : ℕ). breach 24 (Between r.reader r.writer x r.address)) f.0
+      ∙ ap (λ (x : Row). breach 24 (Between x.reader x.writer (first_of (between_in t succ pred (row_in q j)) slots) x.address)) (row_at_lem q j (omega arith) r row)
+      ∙ ap (λ (k : ℕ). breach 24 (Between (row_in q k).reader (row_in q k).writer (first_of (between_in t succ pred (row_in q k)) slots) (row_in q k).address)) e
       ∙ named_yes (first_of (over_in t q succ pred) n) n _ (omega arith)
 
 module _ (n : ℕ) (o : Option ℕ) (l : o ≡ None) where
-  pub rule21_no : (q : List ℕ) → o ≡ first_some (unlike_in q) n → Kept ≡ rule21_in q n
+  pub rule21_no : (q : List ℕ) → o ≡ first_some (unlike_in q) n → unbreached ≡ rule21_in q n
   unfolding rule21_in
   rule21_no q e = named_no (first_of (unlike_in q) n) n _ (none_is (unlike_in q) n o e l)
 
-  pub rule22_no : (succ : List ℕ) → o ≡ first_some (cyclic_in succ) n → Kept ≡ rule22_in succ n
+  pub rule22_no : (succ : List ℕ) → o ≡ first_some (cyclic_in succ) n → unbreached ≡ rule22_in succ n
   unfolding rule22_in
   rule22_no succ e = named_no (first_of (cyclic_in succ) n) n _ (none_is (cyclic_in succ) n o e l)
 
-  pub rule23_no : (q succ : List ℕ) → o ≡ first_some (turned_in q succ) n → Kept ≡ rule23_in q n succ
+  pub rule23_no : (q succ : List ℕ) → o ≡ first_some (turned_in q succ) n → unbreached ≡ rule23_in q n succ
   unfolding rule23_in
   rule23_no q succ e = named_no (first_of (turned_in q succ) n) n _ (none_is (turned_in q succ) n o e l)
 
-pub rule24_no : (t q succ pred : List ℕ) (n : ℕ) → ((d : ℕ) → d < n → over_in t q succ pred d ≡ false) → Kept ≡ rule24_in t q n succ pred
+pub rule24_no : (t q succ pred : List ℕ) (n : ℕ) → ((d : ℕ) → d < n → over_in t q succ pred d ≡ false) → unbreached ≡ rule24_in t q n succ pred
 unfolding rule24_in
 rule24_no t q succ pred n before = let e = first_past (over_in t q succ pred) n n (omega arith) before in named_no (first_of (over_in t q succ pred) n) n _ (omega arith)
 
-pub rule22_yes : (succ : List ℕ) (n e : ℕ) (o : Option ℕ) → o ≡ first_some (cyclic_in succ) n → o ≡ Some e → Breach 22 (OfEvent e) ≡ rule22_in succ n
+pub rule22_yes : (succ : List ℕ) (n e : ℕ) (o : Option ℕ) → o ≡ first_some (cyclic_in succ) n → o ≡ Some e → breach 22 (OfEvent e) ≡ rule22_in succ n
 unfolding rule22_in
 rule22_yes succ n e o f g =
     let k = some_is (cyclic_in succ) n o e f g in
-    ap (λ (x : ℕ). Breach 22 (OfEvent x)) k.0 ∙ named_yes (first_of (cyclic_in succ) n) n _ (omega arith)
+    ap (λ (x : ℕ). breach 22 (OfEvent x)) k.0 ∙ named_yes (first_of (cyclic_in succ) n) n _ (omega arith)

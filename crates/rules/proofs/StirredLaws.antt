@@ -10,7 +10,7 @@ use native.Mathlib.Omega.{arith}
 use lib.Bits.{bit_and, bit_xor, xor_add_and, xor_self, and_le_l, and_le_r}
 use lib.ListN.{replicate}
 use Rattle.basis.proofs.BoolLaws.{false_of, not_both_ways}
-use Rattle.answer.specs.declared.Rule.TheVariants.{Kept}
+use Rattle.answer.specs.Rules.{unbreached}
 use Rattle.std.specs.Prelude.{None}
 use Rattle.cells.proofs.FirstLaws.{some_none}
 use Rattle.tables.specs.Tables.{accesses, row_room, seen_in, wrote_in}
@@ -36,7 +36,7 @@ differ_marks q j a b h p r =
     }
 
 module _ (q : List ℕ) (n : ℕ) where
-  pub rule21_kept : (Unlike q n → ⊥) → Kept ≡ rule21_in q n
+  pub rule21_kept : (Unlike q n → ⊥) → unbreached ≡ rule21_in q n
   rule21_kept never = rule21_no n None refl q (some_none (unlike_in q) n (λ j h. false_of _ (λ y. never (record { at = j; inside = h; holds = y }))))
 
 -- ---- 25

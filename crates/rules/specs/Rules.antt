@@ -13,9 +13,7 @@ use Rattle.std.specs.Int.Bits.{bit_and}
 use Rattle.basis.specs.Test.{◌and◌, non}
 use Rattle.format.specs.declared.Row.{Row}
 use Rattle.answer.specs.declared.Names.TheVariants.{Row as OfRow, Event as OfEvent, Between}
-use Rattle.answer.specs.declared.Rule.{Rule}
-use Rattle.answer.specs.declared.Rule.TheVariants.{Breach}
-use Rattle.answer.specs.Rules.{named, ◌also◌}
+use Rattle.answer.specs.Rules.{Rule, breach, named, ◌also◌}
 use Rattle.sets.specs.Mask.{slots, mem}
 use Rattle.cells.specs.First.{first_of}
 use Rattle.tables.specs.Tables.{writes_in, row_in, seen_in, wrote_in}
@@ -42,19 +40,19 @@ over_in t q succ pred j = ltb (first_of (between_in t succ pred (row_in q j)) sl
 -- ---- which is named
 
 unfoldable pub rule21_in : List ℕ → ℕ → Rule
-rule21_in q n = let j = first_of (unlike_in q) n in named j n (Breach 21 (OfRow (row_in q j).reader (row_in q j).writer (row_in q j).address))
+rule21_in q n = let j = first_of (unlike_in q) n in named j n (breach 21 (OfRow (row_in q j).reader (row_in q j).writer (row_in q j).address))
 
 unfoldable pub rule22_in : List ℕ → ℕ → Rule
-rule22_in succ n = let e = first_of (cyclic_in succ) n in named e n (Breach 22 (OfEvent e))
+rule22_in succ n = let e = first_of (cyclic_in succ) n in named e n (breach 22 (OfEvent e))
 
 unfoldable pub rule23_in : List ℕ → ℕ → List ℕ → Rule
 rule23_in q n succ =
-    let j = first_of (turned_in q succ) n in named j n (Breach 23 (OfRow (row_in q j).reader (row_in q j).writer (row_in q j).address))
+    let j = first_of (turned_in q succ) n in named j n (breach 23 (OfRow (row_in q j).reader (row_in q j).writer (row_in q j).address))
 
 unfoldable pub rule24_in : List ℕ → List ℕ → ℕ → List ℕ → List ℕ → Rule
 rule24_in t q n succ pred =
     let j = first_of (over_in t q succ pred) n in
-    named j n (Breach 24 (Between (row_in q j).reader (row_in q j).writer (first_of (between_in t succ pred (row_in q j)) slots) (row_in q j).address))
+    named j n (breach 24 (Between (row_in q j).reader (row_in q j).writer (first_of (between_in t succ pred (row_in q j)) slots) (row_in q j).address))
 
 unfoldable pub rest_in : List ℕ → ℕ → List ℕ → List ℕ → List ℕ → ℕ → Rule
 rest_in t n succ pred q rows =

@@ -11,7 +11,7 @@ ghost use Rattle.torn.specs.Torn.{sources_in, rule25_in};
 ghost use Rattle.rules.specs.Rules.{unlike_in, cyclic_in, turned_in, between_in, rule21_in, rule22_in, rule23_in, rule24_in, rest_in, rule_in};
 ghost use Rattle.rules.specs.steps.Stirred.{Unlike};
 
-use answer::{Names, Rule};
+use answer::{Breach, Names};
 use format::Row;
 use sets::{SLOTS, least};
 use tables::{ACCESSES, COLUMNS, ROW_CELLS, ROWS};
@@ -89,33 +89,36 @@ fn differ(q: &[u8; ROW_CELLS], n: usize) -> bool
 
 // ---- the first that is broken
 
-fn rule21(q: &[u8; ROW_CELLS], n: usize) -> Rule
+fn rule21(q: &[u8; ROW_CELLS], n: usize) -> Result<(), Breach>
     ensures { result ≡ rule21_in q.now (min n row_room) }
 {
     if let Some(j) = unlike(q, n) {
         let r = rows::row(q, j);
-        return Rule::Breach(21, Names::Row(r.reader, r.writer, r.address));
+        let names = Names::Row(r.reader, r.writer, r.address);
+        return Err(Breach { number: 21, names });
     }
-    Rule::Kept
+    Ok(())
 }
 
-fn rule22(succ: &[u32; SLOTS], n: usize) -> Rule
+fn rule22(succ: &[u32; SLOTS], n: usize) -> Result<(), Breach>
     ensures { result ≡ rule22_in succ.now (min n slots) }
 {
     if let Some(e) = cyclic(succ, n) {
-        return Rule::Breach(22, Names::Event(e as u8));
+        let names = Names::Event(e as u8);
+        return Err(Breach { number: 22, names });
     }
-    Rule::Kept
+    Ok(())
 }
 
-fn rule23(q: &[u8; ROW_CELLS], n: usize, succ: &[u32; SLOTS]) -> Rule
+fn rule23(q: &[u8; ROW_CELLS], n: usize, succ: &[u32; SLOTS]) -> Result<(), Breach>
     ensures { result ≡ rule23_in q.now (min n row_room) succ.now }
 {
     if let Some(j) = turned(q, n, succ) {
         let r = rows::row(q, j);
-        return Rule::Breach(23, Names::Row(r.reader, r.writer, r.address));
+        let names = Names::Row(r.reader, r.writer, r.address);
+        return Err(Breach { number: 23, names });
     }
-    Rule::Kept
+    Ok(())
 }
 
 fn rule24(
@@ -124,26 +127,27 @@ fn rule24(
     n: usize,
     succ: &[u32; SLOTS],
     pred: &[u32; SLOTS],
-) -> Rule
+) -> Result<(), Breach>
     ensures { result ≡ rule24_in t.now q.now (min n row_room) succ.now pred.now }
 {
     for j in 0..least(n, ROWS) {
         let r = rows::row(q, j);
         if let Some(v) = between(t, succ, pred, r) {
-            return Rule::Breach(24, Names::Between(r.reader, r.writer, v as u8, r.address));
+            let names = Names::Between(r.reader, r.writer, v as u8, r.address);
+            return Err(Breach { number: 24, names });
         }
     }
-    Rule::Kept
+    Ok(())
 }
 
 // 21 alone: it asks for no happens-before. Most sheets keep it, and one test over all rows tells.
-pub fn bytes(q: &[u8; ROW_CELLS], n: usize) -> Rule
+pub fn bytes(q: &[u8; ROW_CELLS], n: usize) -> Result<(), Breach>
     ensures { result ≡ rule21_in q.now (min n row_room) }
 {
     if differ(q, n) {
         return rule21(q, n);
     }
-    Rule::Kept
+    Ok(())
 }
 
 // The masks gain the sources that 25 asks for, of the first n rows.
@@ -156,7 +160,7 @@ fn sources(t: &[u8; COLUMNS], q: &[u8; ROW_CELLS], n: usize, masks: &mut [u32; A
     }
 }
 
-fn rule25(t: &[u8; COLUMNS], events: usize, q: &[u8; ROW_CELLS], rows: usize) -> Rule
+fn rule25(t: &[u8; COLUMNS], events: usize, q: &[u8; ROW_CELLS], rows: usize) -> Result<(), Breach>
     ensures { result ≡ rule25_in t.now (min events slots) q.now (min rows row_room) }
 {
     let mut masks = [0u32; ACCESSES];
@@ -172,21 +176,12 @@ pub fn rest(
     pred: &[u32; SLOTS],
     q: &[u8; ROW_CELLS],
     rows: usize,
-) -> Rule
+) -> Result<(), Breach>
     ensures { result ≡ rest_in t.now (min events slots) succ.now pred.now q.now (min rows row_room) }
 {
-    let b = rule22(succ, events);
-    if let Rule::Breach(n, names) = b {
-        return Rule::Breach(n, names);
-    }
-    let c = rule23(q, rows, succ);
-    if let Rule::Breach(n, names) = c {
-        return Rule::Breach(n, names);
-    }
-    let d = rule24(t, q, rows, succ, pred);
-    if let Rule::Breach(n, names) = d {
-        return Rule::Breach(n, names);
-    }
+    rule22(succ, events)?;
+    rule23(q, rows, succ)?;
+    rule24(t, q, rows, succ, pred)?;
     rule25(t, events, q, rows)
 }
 
@@ -198,12 +193,9 @@ pub fn first_broken(
     pred: &[u32; SLOTS],
     q: &[u8; ROW_CELLS],
     rows: usize,
-) -> Rule
+) -> Result<(), Breach>
     ensures { result ≡ rule_in t.now (min events slots) succ.now pred.now q.now (min rows row_room) }
 {
-    let a = bytes(q, rows);
-    if let Rule::Breach(n, names) = a {
-        return Rule::Breach(n, names);
-    }
+    bytes(q, rows)?;
     rest(t, events, succ, pred, q, rows)
 }

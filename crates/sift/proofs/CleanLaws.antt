@@ -24,7 +24,7 @@ use Rattle.basis.specs.Test.{◌and◌, ◌or◌}
 use Rattle.basis.proofs.BoolLaws.{by_bool, not_both_ways, false_of, amp_and, bar_or, and_both, and_parts, both_hold, or_holds, or_second}
 use Rattle.format.specs.declared.Row.{Row}
 use Rattle.format.specs.Shape.{writes, tear_free, equal}
-use Rattle.answer.specs.declared.Rule.TheVariants.{Kept}
+use Rattle.answer.specs.Rules.{unbreached}
 use Rattle.answer.proofs.RulesLaws.{also_later}
 use Rattle.sets.specs.Mask.{slots, mem, Has, insert}
 use Rattle.sets.specs.Tells.{Tells}
@@ -312,7 +312,7 @@ module _ (t succ pred : List ℕ) (far : ℕ) (l q : List ℕ) where
           let e = first_past (between_in t succ pred (row_in q j)) slots slots (omega arith) none_between in
           le-ltb (first_of (between_in t succ pred (row_in q j)) slots) slots (omega arith)
 
-  pub clean_kept : (n m : ℕ) → n ≤ slots → m ≤ row_room → Telling t n far l → Clean t n succ pred far l q m → rest_in t n succ pred q m ≡ Kept
+  pub clean_kept : (n m : ℕ) → n ≤ slots → m ≤ row_room → Telling t n far l → Clean t n succ pred far l q m → rest_in t n succ pred q m ≡ unbreached
   unfolding rest_in rule25_in
   clean_kept n m few room have c =
       let kept22 = rule22_no n None refl succ (some_none (cyclic_in succ) n (λ e h. false_of _ (λ y. c.uncyclic (record { at = e; inside = omega arith; holds = y })))) in

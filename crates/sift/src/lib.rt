@@ -33,13 +33,6 @@ const NEAR: usize = 64;
 
 const BYTES: usize = 72;
 
-// What a pass finds: `clean` says that no rule of 22 to 25 is broken and that the list is worth something; `count` is the number of its entries.
-#[derive(Clone, Copy)]
-pub struct Sifted {
-    pub clean: bool,
-    pub count: usize,
-}
-
 // What first accesses are: sets of events. `far` has those of which more is to be known than the eight bytes from the start on, by their places among
 // 64; `sc` those that write sc, `writers` those that write. `seconds` is 0 where no event has a second access.
 #[derive(Clone, Copy)]
@@ -253,7 +246,7 @@ fn enter(
 
 // ---- the pass
 
-// The first rows: is none amiss, and what they bar. It ends at the first that is.
+// The first rows, where none is amiss: how many entries of what they bar are listed. It ends at the first that is.
 fn pass(
     k: usize,
     t: &[u8; COLUMNS],
@@ -267,7 +260,7 @@ fn pass(
     between: &mut [u32],
     readers: &mut [u8],
     writers: &mut [u8],
-) -> Sifted
+) -> Option<usize>
     requires { (length between.old ≡ list_room) × (length readers.old ≡ list_room) × (length writers.old ≡ list_room) }
     ensures { Passed t.now eq.now far bytes.now succ.now pred.now q.now k (min rows row_room) result between.new readers.new writers.new }
 {
@@ -282,10 +275,7 @@ fn pass(
         wholes = run(t, r, last_reader, wholes);
         let found = amiss(t, r, last_reader, wholes, succ, pred, far, bytes);
         if found != 0 {
-            return Sifted {
-                clean: false,
-                count: n,
-            };
+            return None;
         }
         let b = barred(k, t, eq, succ, pred, r);
         let again = (r.reader == last_reader) & ((r.writer == last_writer) & (b == last));
@@ -294,13 +284,10 @@ fn pass(
         last_writer = r.writer;
         last = b;
     }
-    Sifted {
-        clean: true,
-        count: n,
-    }
+    Some(n)
 }
 
-// Whether nothing of 22 to 25 is amiss, and where it is so a list of the bars (Listed, crate bars).
+// Where nothing of 22 to 25 is amiss, a list of the bars (Listed, crate bars): how many entries it has.
 pub fn sift(
     inits: usize,
     t: &[u8; COLUMNS],
@@ -312,7 +299,7 @@ pub fn sift(
     between: &mut [u32; LIST],
     readers: &mut [u8; LIST],
     writers: &mut [u8; LIST],
-) -> Sifted
+) -> Option<usize>
     ensures { Sieve t.now (min events slots) succ.now pred.now q.now inits (min rows row_room) result between.new readers.new writers.new }
 {
     let mut by = [0u32; SLOTS];
@@ -322,12 +309,9 @@ pub fn sift(
     let mut bytes = [0u32; BYTES];
     near(t, seen.writers, &mut bytes);
     let far = seen.far | !sets::full(events);
-    let s = pass(
+    let listed = pass(
         inits, t, &eq, far, &bytes, succ, pred, q, rows, between, readers, writers,
     );
-    let clean = s.clean & ((seen.seconds == 0) & (cyclic(succ) == 0));
-    Sifted {
-        clean: clean,
-        count: s.count,
-    }
+    let clean = (seen.seconds == 0) & (cyclic(succ) == 0);
+    if clean { listed } else { None }
 }

@@ -7,8 +7,8 @@ use Rattle.std.specs.Prelude.{◌≡◌, List, ℕ, min}
 use Rattle.sets.specs.Mask.{slots}
 use Rattle.answer.specs.declared.Answer.TheVariants.{Broken, Consistent}
 use Rattle.answer.specs.Word.{packed}
-use Rattle.answer.specs.declared.Rule.{Rule}
-use Rattle.answer.specs.declared.Rule.TheVariants.{Kept, Breach}
+use Rattle.std.specs.Prelude.{Ok, Err}
+use Rattle.answer.specs.Rules.{Rule}
 use Rattle.tables.specs.Tables.{row_room, pair_room}
 use Rattle.before.specs.Before.{ClosedSteps}
 use Rattle.rules.specs.Rules.{rule_in}
@@ -16,8 +16,8 @@ use Rattle.bars.specs.Bars.{filled_in}
 use Rattle.settle.specs.Settle.{settled_in}
 
 abbrev pub rule_word : Rule → ℕ
-rule_word Kept = 0
-rule_word (Breach n names) = packed (Broken n names)
+rule_word (Ok u) = 0
+rule_word (Err e) = packed (Broken e.number e.names)
 
 pub record StepsRuled (t : List ℕ) (n : ℕ) (q : List ℕ) (m : ℕ) (p : List ℕ) (k : ℕ) (succ pred : List ℕ) (r : ℕ) (succ' pred' : List ℕ) : Type 0 where
   pub ordered : ClosedSteps t (min n slots) q (min m row_room) p (min k pair_room) succ succ' pred pred'

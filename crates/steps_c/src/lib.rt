@@ -4,7 +4,7 @@
 
 ghost use Rattle.steps_c.specs.Exported.{StepsRuled, StepsBarred};
 
-use answer::{Answer, Rule};
+use answer::Answer;
 use sets::SLOTS;
 use tables::{COLUMNS, PAIR_CELLS, ROW_CELLS};
 
@@ -25,8 +25,8 @@ pub extern "C" fn steps_rule(
     before::fill(t, events, q, rows, p, pairs, succ, pred);
     let rule = rules::first_broken(t, events, succ, pred, q, rows);
     match rule {
-        Rule::Kept => 0,
-        Rule::Breach(number, names) => answer::pack(Answer::Broken(number, names)),
+        Ok(()) => 0,
+        Err(broken) => answer::pack(Answer::Broken(broken.number, broken.names)),
     }
 }
 

@@ -6,7 +6,7 @@ use native.Mathlib.Decide.{ℕ_discrete}
 use lib.Bits.{bit_and, and_step, and_self, and_zero_l}
 use lib.Count.{count_trailing_zeros}
 use Rattle.basis.proofs.BoolLaws.{or_either, false_of, not_both_ways}
-use Rattle.answer.specs.declared.Rule.TheVariants.{Kept}
+use Rattle.answer.specs.Rules.{unbreached}
 use Rattle.sets.specs.Mask.{slots, mem, Has}
 use Rattle.sets.proofs.MaskLaws.{mem_zero, mem_suc, mem_empty, lowest_in}
 use Rattle.cells.specs.First.{first_of}
@@ -135,5 +135,5 @@ module _ (s : List ℕ) (n : ℕ) (few : n ≤ slots) (no : Doubled s → ⊥) w
       let z = first_past (two_sources_in s e) pairs pairs (omega arith) (λ p l. no_sources e h p) in
       le-ltb (first_of (two_sources_in s e) pairs) pairs (omega arith)
 
-  pub not_doubled : Kept ≡ named_in s n
+  pub not_doubled : unbreached ≡ named_in s n
   not_doubled = none_here s n not_torn

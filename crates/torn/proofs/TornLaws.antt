@@ -9,7 +9,7 @@ use lib.Seq.{set-get_or}
 use Rattle.basis.proofs.BoolLaws.{by_bool}
 use Rattle.format.specs.declared.Row.{Row}
 use Rattle.answer.specs.declared.Names.TheVariants.{Torn}
-use Rattle.answer.specs.declared.Rule.TheVariants.{Kept, Breach}
+use Rattle.answer.specs.Rules.{unbreached, breach}
 use Rattle.answer.proofs.RulesLaws.{named_yes, named_no}
 use Rattle.sets.specs.Mask.{slots, insert}
 use Rattle.sets.proofs.MaskLaws.{one_shl, or_one}
@@ -91,15 +91,15 @@ module _ (t q : List ℕ) (l : List ℕ) where
 -- ---- which is named
 
 pub named_here : (s : List ℕ) (n e p : ℕ) → e < n → ((d : ℕ) → d < e → torn_in s d ≡ false) → (p ≡ first_of (two_sources_in s e) pairs) × (p < pairs)
-    → Breach 25 (Torn e (p / slots) (p % slots)) ≡ named_in s n
+    → breach 25 (Torn e (p / slots) (p % slots)) ≡ named_in s n
 unfolding named_in torn_in
 named_here s n e p h before is =
     let yes : torn_in s e ≡ true = let q = is.0 in let l = is.1 in lt-ltb (first_of (two_sources_in s e) pairs) pairs (omega arith) in
     let f : e ≡ first_of (torn_in s) n = first_found (torn_in s) n e h before yes in
-    ap (λ (x : ℕ). Breach 25 (Torn e (x / slots) (x % slots))) is.0
-    ∙ ap (λ (x : ℕ). Breach 25 (Torn x (first_of (two_sources_in s x) pairs / slots) (first_of (two_sources_in s x) pairs % slots))) f
+    ap (λ (x : ℕ). breach 25 (Torn e (x / slots) (x % slots))) is.0
+    ∙ ap (λ (x : ℕ). breach 25 (Torn x (first_of (two_sources_in s x) pairs / slots) (first_of (two_sources_in s x) pairs % slots))) f
     ∙ named_yes (first_of (torn_in s) n) n _ (omega arith)
 
-pub none_here : (s : List ℕ) (n : ℕ) → ((d : ℕ) → d < n → torn_in s d ≡ false) → Kept ≡ named_in s n
+pub none_here : (s : List ℕ) (n : ℕ) → ((d : ℕ) → d < n → torn_in s d ≡ false) → unbreached ≡ named_in s n
 unfolding named_in
 none_here s n before = let f = first_past (torn_in s) n n (omega arith) before in named_no (first_of (torn_in s) n) n _ (omega arith)

@@ -10,9 +10,7 @@ use Rattle.basis.specs.Test.{◌and◌, ◌or◌}
 use Rattle.format.specs.declared.Row.{Row}
 use Rattle.format.specs.Shape.{tear_free, equal}
 use Rattle.answer.specs.declared.Names.TheVariants.{Torn}
-use Rattle.answer.specs.declared.Rule.{Rule}
-use Rattle.answer.specs.declared.Rule.TheVariants.{Breach}
-use Rattle.answer.specs.Rules.{named}
+use Rattle.answer.specs.Rules.{Rule, breach, named}
 use Rattle.sets.specs.Mask.{slots, mem}
 use Rattle.cells.specs.Walk.{up_to}
 use Rattle.cells.specs.Cells.{gaining}
@@ -46,7 +44,7 @@ torn_in s e = nat_lt (first_of (two_sources_in s e) pairs) pairs
 unfoldable pub named_in : List ℕ → ℕ → Rule
 named_in s n =
     let e = first_of (torn_in s) n in
-    named e n (Breach 25 (Torn e (first_of (two_sources_in s e) pairs / slots) (first_of (two_sources_in s e) pairs % slots)))
+    named e n (breach 25 (Torn e (first_of (two_sources_in s e) pairs / slots) (first_of (two_sources_in s e) pairs % slots)))
 
 unfoldable pub rule25_in : List ℕ → ℕ → List ℕ → ℕ → Rule
 rule25_in t n q rows = named_in (sources_in t q rows (replicate accesses 0)) n

@@ -10,7 +10,7 @@ ghost use Rattle.torn.specs.Torn.{untorn_in, source_gains, two_in, two_sources_i
 ghost use Rattle.torn.specs.steps.Noticed.{Marks};
 ghost use Rattle.torn.specs.steps.Doubled.{Twice, Doubled};
 
-use answer::{Names, Rule};
+use answer::{Breach, Names};
 use format::Row;
 use sets::{SLOTS, least};
 use tables::{ACCESSES, COLUMNS};
@@ -92,19 +92,17 @@ fn doubled(s: &[u32; ACCESSES]) -> bool
 }
 
 // 25 at the first event that has two, with the lowest. Mostly no mask has two members.
-pub fn named(s: &[u32; ACCESSES], n: usize) -> Rule
+pub fn named(s: &[u32; ACCESSES], n: usize) -> Result<(), Breach>
     ensures { result ≡ named_in s.now (min n slots) }
 {
     if !doubled(s) {
-        return Rule::Kept;
+        return Ok(());
     }
     for e in 0..least(n, SLOTS) {
         if let Some(p) = pair(s, e) {
-            return Rule::Breach(
-                25,
-                Names::Torn(e as u8, (p / SLOTS) as u8, (p % SLOTS) as u8),
-            );
+            let names = Names::Torn(e as u8, (p / SLOTS) as u8, (p % SLOTS) as u8);
+            return Err(Breach { number: 25, names });
         }
     }
-    Rule::Kept
+    Ok(())
 }

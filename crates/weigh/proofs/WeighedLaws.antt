@@ -10,9 +10,9 @@ use Rattle.sets.specs.Mask.{slots}
 use Rattle.marks.specs.Table.{cleared}
 use Rattle.answer.specs.declared.Answer.{Answer}
 use Rattle.answer.specs.declared.Answer.TheVariants.{Broken}
-use Rattle.answer.specs.declared.Names.{Names}
-use Rattle.answer.specs.declared.Rule.{Rule}
-use Rattle.answer.specs.declared.Rule.TheVariants.{Kept, Breach}
+use Rattle.std.specs.Prelude.{Ok, Err}
+use Rattle.answer.specs.declared.Breach.{Breach}
+use Rattle.answer.specs.Rules.{Rule, unbreached}
 use Rattle.prepare.specs.Prepared.{Ruled}
 use Rattle.prepare.proofs.PreparedLaws.{ruled_unique}
 use Rattle.arrange.specs.Arranged.{Arranged}
@@ -34,12 +34,12 @@ module _ {s : List ℕ} {x : Counts} {t q succ pred : List ℕ} {rule : Rule} (w
         decided = subst (λ (i : Rule). Decided x.inits x.events x.rows t q w.after w.before need scratch order i r scratch' order') w.says d;
       }
 
-  pub weighed_broken : {n : ℕ} {names : Names} → rule ≡ Breach n names → {scratch' : List ℕ} → scratch' ≡ cleared need scratch
-      → Weighed s x t q need scratch order (Broken n names) scratch' order
-  weighed_broken {n} {names} k {scratch'} c =
-      weighed (subst (λ (i : Rule). Decided x.inits x.events x.rows t q w.after w.before need scratch order i (Broken n names) scratch' order) (sym k) (record { says = refl; scratch_cleared = c; order_kept = refl }))
+  pub weighed_broken : {e : Breach} → rule ≡ Err e → {scratch' : List ℕ} → scratch' ≡ cleared need scratch
+      → Weighed s x t q need scratch order (Broken e.number e.names) scratch' order
+  weighed_broken {e} k {scratch'} c =
+      weighed (subst (λ (i : Rule). Decided x.inits x.events x.rows t q w.after w.before need scratch order i (Broken e.number e.names) scratch' order) (sym k) (record { says = refl; scratch_cleared = c; order_kept = refl }))
 
-  pub weighed_kept : rule ≡ Kept → {r : Answer} {scratch' order' : List ℕ} → Arranged x.inits x.events x.rows t q succ pred scratch order r scratch' order'
+  pub weighed_kept : rule ≡ unbreached → {r : Answer} {scratch' order' : List ℕ} → Arranged x.inits x.events x.rows t q succ pred scratch order r scratch' order'
       → Weighed s x t q need scratch order r scratch' order'
   weighed_kept k {r} {scratch'} {order'} a =
       let m = w.left k in
@@ -52,8 +52,8 @@ module _ {s : List ℕ} {x : Counts} {t q succ pred : List ℕ} {rule : Rule} (w
 module _ (k n m : ℕ) (t q succ pred : List ℕ) (need : ℕ) (scratch order : List ℕ) {r a : Answer} {s s' o o' : List ℕ} where
   decided_unique : (rule : Rule) → Decided k n m t q succ pred need scratch order rule r s o → Decided k n m t q succ pred need scratch order rule a s' o'
       → (r ≡ a) × (s ≡ s') × (o ≡ o')
-  decided_unique Kept x y = arranged_unique x y
-  decided_unique (Breach number names) x y =
+  decided_unique (Ok u) x y = arranged_unique x y
+  decided_unique (Err e) x y =
       (x.says ∙ sym y.says, x.scratch_cleared ∙ sym y.scratch_cleared, x.order_kept ∙ sym y.order_kept)
 
 module _ {s : List ℕ} {x : Counts} {t q : List ℕ} {need : ℕ} {scratch order : List ℕ} {r a : Answer} {c c' o o' : List ℕ}

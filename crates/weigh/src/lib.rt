@@ -2,22 +2,22 @@
 // Total: nothing is asked of the sheet, the counts, the tables or the buffers.
 #![tactic(auto)]
 
-ghost use Rattle.std.specs.Prelude.{◌<◌, min};
+ghost use Rattle.std.specs.Prelude.{◌≡◌, ℕ, min, Some};
 ghost use Rattle.sets.specs.Mask.{slots};
 ghost use Rattle.tables.specs.Tables.{row_room};
 ghost use Rattle.alike.specs.Ranges.{equals_in};
-ghost use Rattle.bars.specs.Listed.{list_room, Listed};
+ghost use Rattle.bars.specs.Listed.{Listed};
 ghost use Rattle.orders.specs.Answer.{Answered};
 ghost use Rattle.arrange.specs.Arranged.{bars_of};
 ghost use Rattle.weigh.specs.Weighed.{Weighed};
 
-use answer::{Answer, Rule};
+use answer::Answer;
 use bars::LIST;
 use entries::Counts;
 use sets::SLOTS;
 use tables::{COLUMNS, ROW_CELLS};
 
-// Whether there is an order, and the first one: by the list of bars where it has all, which is mostly little.
+// Whether there is an order, and the first one: by the list of bars where it has all, which is mostly little. A full list may lack some.
 fn seek(
     inits: usize,
     events: usize,
@@ -29,17 +29,19 @@ fn seek(
     between: &[u32; LIST],
     readers: &[u8; LIST],
     writers: &[u8; LIST],
-    count: usize,
+    listed: Option<usize>,
     scratch: &mut [u8],
     order: &mut [u8],
 ) -> bool
-    requires { count < list_room → Listed t.now (equals_in t.now (min events slots)) succ.now pred.now q.now inits (min rows row_room) count between.now readers.now writers.now }
+    requires { (count : ℕ) → listed ≡ Some count → Listed t.now (equals_in t.now (min events slots)) succ.now pred.now q.now inits (min rows row_room) count between.now readers.now writers.now }
     ensures { Answered inits events pred.now (bars_of t.now events succ.now pred.now q.now rows) scratch.old order.old result scratch.new order.new }
 {
-    if count < LIST {
-        return first_order::first_listed(
-            inits, events, pred, between, readers, writers, count, scratch, order,
-        );
+    if let Some(count) = listed {
+        if count < LIST {
+            return first_order::first_listed(
+                inits, events, pred, between, readers, writers, count, scratch, order,
+            );
+        }
     }
     arrange::by_table(inits, events, rows, t, q, succ, pred, scratch, order)
 }
@@ -64,7 +66,7 @@ pub fn weigh(
     let mut between = [0u32; LIST];
     let mut readers = [0u8; LIST];
     let mut writers = [0u8; LIST];
-    let found = prepare::ready(
+    let ready = prepare::ready(
         s,
         x,
         t,
@@ -75,16 +77,14 @@ pub fn weigh(
         &mut readers,
         &mut writers,
     );
-    let rule = found.rule;
-    let count = found.count;
-    match rule {
-        Rule::Breach(n, names) => {
+    match ready {
+        Err(broken) => {
             marks::clear(scratch, need);
-            Answer::Broken(n, names)
+            Answer::Broken(broken.number, broken.names)
         }
-        Rule::Kept => {
+        Ok(listed) => {
             let found = seek(
-                inits, events, rows, t, q, &succ, &pred, &between, &readers, &writers, count,
+                inits, events, rows, t, q, &succ, &pred, &between, &readers, &writers, listed,
                 scratch, order,
             );
             // its only caller, so that the compiler puts it in place

@@ -33,8 +33,7 @@ use Rattle.orders.proofs.InitsLaws.{runs_whole}
 use Rattle.orders.proofs.SearchLaws.{meets_from}
 use Rattle.answer.specs.declared.Names.{Names}
 use Rattle.answer.specs.declared.Settled.{Settled}
-use Rattle.answer.specs.declared.Rule.{Rule}
-use Rattle.answer.specs.declared.Rule.TheVariants.{Kept as RuleKept, Breach}
+use Rattle.answer.specs.Rules.{Rule, unbreached, breach}
 use Rattle.tables.specs.Tables.{columns, row_room, row_cells, pair_cells}
 use Rattle.lay.specs.Lay.{events_put, rows_put, Layered}
 use Rattle.settle.specs.Settle.{settled_in}
@@ -223,7 +222,7 @@ module _ {s : List ℕ} {x : Counts} {at : List ℕ} (h : HandedWhole s x at) {t
           scratch = rw room (rw (laid_need h.laid needs) at enough);
         }
 
-    pub explained_broken : {scratch bars : List ℕ} → need ≤ length scratch → {n : ℕ} {names : Names} → rule ≡ Breach n names → {scratch' : List ℕ} → scratch' ≡ cleared need scratch
+    pub explained_broken : {scratch bars : List ℕ} → need ≤ length scratch → {n : ℕ} {names : Names} → rule ≡ breach n names → {scratch' : List ℕ} → scratch' ≡ cleared need scratch
         → ExplainedBroken s scratch bars (faulty n names) scratch' bars
     explained_broken {scratch} enough k e =
         record {
@@ -236,7 +235,7 @@ module _ {s : List ℕ} {x : Counts} {at : List ℕ} (h : HandedWhole s x at) {t
           bars_kept = refl;
         }
 
-    module _ (scratch bars : List ℕ) (enough : need ≤ length scratch) (k : rule ≡ RuleKept) where
+    module _ (scratch bars : List ℕ) (enough : need ≤ length scratch) (k : rule ≡ unbreached) where
       abbrev before : ℕ → ℕ → Bool
       before = hb_of w.after
 
@@ -305,7 +304,7 @@ module _ {s : List ℕ} {x : Counts} {at : List ℕ} (h : HandedWhole s x at) {t
           }
       by_finding Unfit bars' c y = absurd y
 
-    pub explained_found : {scratch bars : List ℕ} → need ≤ length scratch → rule ≡ RuleKept → {f : Finding} {scratch' bars' : List ℕ}
+    pub explained_found : {scratch bars : List ℕ} → need ≤ length scratch → rule ≡ unbreached → {f : Finding} {scratch' bars' : List ℕ}
         → Keeps x.inits x.events pred (bars_of t x.events succ pred q x.rows) scratch bars f scratch' bars'
         → {r : Explanation} → r ≡ told_of f (settled_in t succ (min x.events slots)) → Explained s scratch bars r scratch' bars'
     explained_found {scratch} {bars} enough k {f} {scratch'} {bars'} y {r} e =

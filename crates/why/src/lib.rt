@@ -14,7 +14,7 @@ ghost use Rattle.why.specs.Explained.{Explained};
 ghost use Rattle.why.specs.Word.{settled_word, why_word};
 ghost use Rattle.why.specs.steps.Told.{told_of};
 
-use answer::{Four, Name, Names, Rule, Settled};
+use answer::{Four, Name, Names, Settled};
 use entries::Counts;
 use gather::PAIRS;
 use kept::Finding;
@@ -85,11 +85,11 @@ fn weigh(
     let mut pred = [0u32; SLOTS];
     let rule = prepare::rule(s, x, t, q, &mut succ, &mut pred);
     match rule {
-        Rule::Breach(n, names) => {
+        Err(broken) => {
             marks::clear(scratch, need);
-            Explanation::Broken(n, names)
+            Explanation::Broken(broken.number, broken.names)
         }
-        Rule::Kept => {
+        Ok(()) => {
             let found = seek(inits, events, rows, t, q, &succ, &pred, scratch, out);
             told(found, t, &succ, events)
         }

@@ -2,8 +2,8 @@
 use Rattle.log_check.proofs.CheckedLaws.{checked_broken, checked_list}
 use Rattle.log_check.proofs.weigh.Goals as goal
 
-pub returns-in-Breach : goal.returns-in-Breach
-returns-in-Breach c = checked_broken c.requires.1.handed c.requires.1.events c.requires.1.rows c.rule-rule.ensures c.in-Breach.is
+pub returns-in-Err : goal.returns-in-Err
+returns-in-Err c = checked_broken c.requires.1.handed c.requires.1.events c.requires.1.rows c.rule-rule.ensures c.in-Err.is
 
-pub returns-in-Kept : goal.returns-in-Kept
-returns-in-Kept c = checked_list c.requires.1.handed c.requires.1.events c.requires.1.rows c.rule-rule.ensures c.in-Kept.is c.args.list.now c.check.ensures
+pub returns-in-Ok : goal.returns-in-Ok
+returns-in-Ok c = checked_list c.requires.1.handed c.requires.1.events c.requires.1.rows c.rule-rule.ensures c.in-Ok.is c.args.list.now c.check.ensures

@@ -6,8 +6,8 @@ use Rattle.rules.specs.Rules.{cyclic_in}
 use Rattle.rules.proofs.RulesLaws.{rule22_yes, rule22_no}
 use Rattle.rules.proofs.rule22.Goals as goal
 
-pub overflow_cast-result : goal.overflow_cast-result
-overflow_cast-result c = let k = (some_is (cyclic_in c.args.succ.now) (min c.args.n slots) c.cyclic.result c.in-Some.e c.cyclic.ensures c.in-Some.is).1 in omega arith
+pub overflow_cast-names : goal.overflow_cast-names
+overflow_cast-names c = let k = (some_is (cyclic_in c.args.succ.now) (min c.args.n slots) c.cyclic.result c.in-Some.e c.cyclic.ensures c.in-Some.is).1 in omega arith
 
 pub returns-in-Some : goal.returns-in-Some
 returns-in-Some c = rule22_yes c.args.succ.now (min c.args.n slots) c.in-Some.e c.cyclic.result c.cyclic.ensures c.in-Some.is

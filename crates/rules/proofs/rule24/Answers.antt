@@ -8,8 +8,8 @@ use Rattle.rules.proofs.rule24.Goals as goal
 pub loop-j-init : goal.loop-j-init
 loop-j-init c = λ d h. absurd (omega arith)
 
-pub overflow_cast-result : goal.overflow_cast-result
-overflow_cast-result c =
+pub overflow_cast-names : goal.overflow_cast-names
+overflow_cast-names c =
     let z = c.least-j-end.ensures in
     let k = (over_is c.args.q.now c.loop-j.j (omega arith) c.row-r.result c.row-r.ensures c.args.t.now c.args.succ.now c.args.pred.now c.between.result c.between.ensures c.in-Some.v c.in-Some.is).1 in
     omega arith

@@ -41,7 +41,7 @@ returns-then-found-ne0 c =
     let marks : Marks c.amiss-found.result (AmissAt t a.succ.now a.pred.now a.far a.bytes.now q l.j) = amiss_at t a.succ.now a.pred.now a.far a.bytes.now q l.j r is c.amiss-found.result l.last_reader c.run-wholes.result l.invariant.3 runs c.amiss-found.ensures in
     record {
       is = record { holds = λ h. absurd (not_both_ways h refl); fails = λ h f. f (record { at = l.j; inside = omega (arith, c.loop-j-test.true); holds = marks.some c.if-found-ne0.true }) };
-      listed = λ h. absurd (not_both_ways h refl);
+      listed = λ n h. absurd (cc);
     }
 
 pub loop-j-preserved : goal.loop-j-preserved
@@ -84,5 +84,7 @@ returns c =
     let e : l.j ≡ min a.rows row_room = omega arith in
     record {
       is = record { holds = λ h. subst (λ (i : ℕ). Among i (AmissAt a.t.now a.succ.now a.pred.now a.far a.bytes.now a.q.now) → ⊥) e l.invariant.2; fails = λ h. absurd (not_both_ways refl h) };
-      listed = λ h eqs agree. subst (λ (i : ℕ). Listed a.t.now eqs a.succ.now a.pred.now a.q.now a.k i l.n l.between l.readers l.writers) e (l.invariant.5 eqs agree).0;
+      listed = λ n h eqs agree. let k : l.n ≡ n = cc in
+          subst (λ (x : ℕ). Listed a.t.now eqs a.succ.now a.pred.now a.q.now a.k (min a.rows row_room) x l.between l.readers l.writers) k
+          (subst (λ (i : ℕ). Listed a.t.now eqs a.succ.now a.pred.now a.q.now a.k i l.n l.between l.readers l.writers) e (l.invariant.5 eqs agree).0);
     }

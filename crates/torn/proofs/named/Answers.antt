@@ -12,8 +12,8 @@ returns-then-not-doubled c = not_doubled c.args.s.now (min c.args.n slots) (omeg
 pub loop-e-init : goal.loop-e-init
 loop-e-init c = λ d h. absurd (omega arith)
 
-pub overflow_cast-result-in-Some : goal.overflow_cast-result-in-Some
-overflow_cast-result-in-Some c =
+pub overflow_cast-names-in-Some : goal.overflow_cast-names-in-Some
+overflow_cast-names-in-Some c =
     let z = c.least-e-end.ensures in
     let k = (torn_is c.args.s.now c.loop-e.e (omega arith) c.pair.result c.pair.ensures c.in-Some.p c.in-Some.is).1 in
     omega arith

@@ -56,7 +56,7 @@ fn next_of(
 
 // ---- the list
 
-// A list of bars, of whose entries the first n count. The three arrays stand side by side as C lends them.
+// A list of bars, of whose entries the first n count. The three arrays stand side by side as the pass over the rows (crate `sift`) fills them.
 #[derive(Drop)]
 pub struct Entries<'a> {
     between: &'a [u32; LIST],

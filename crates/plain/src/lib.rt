@@ -60,10 +60,7 @@ fn begin(s: &[u8]) -> Spot
         p: next,
         last: 1,
         x: spot::behind(layout::head_of(field::byte(v, 0), v), 0, 0, next),
-        t: Tally {
-            bytes: 0,
-            agents: 0,
-        },
+        ..start()
     }
 }
 
@@ -96,11 +93,8 @@ fn shape_plain(s: &[u8], edition: u8, p: u16) -> Shape
     match edition {
         2 => a,
         _ => Shape {
-            kind: a.kind,
-            mode: a.mode,
-            start: a.start,
-            width: a.width,
             tear: tear_plain(a),
+            ..a
         },
     }
 }
@@ -174,8 +168,8 @@ fn inits(s: &[u8], spot: Spot, at: &mut [u16], t: &mut [u8]) -> Spot
         let plain = plain_first(s, p, spot::behind(h, n, n, p), at, high);
         if !plain {
             return Spot {
-                p: p,
-                last: last,
+                p,
+                last,
                 x: spot::behind(h, n, n, p),
                 t: k,
             };
@@ -184,13 +178,13 @@ fn inits(s: &[u8], spot: Spot, at: &mut [u16], t: &mut [u8]) -> Spot
         high = end_of(s, p, high);
         let a = shape_here(s, h.edition, p);
         k = take_event(s, h.edition, p, n, a, k, at, t);
-        n = n + 1;
+        n += 1;
         last = 2;
         p = next;
     }
     Spot {
-        p: p,
-        last: last,
+        p,
+        last,
         x: spot::behind(h, n, n, p),
         t: k,
     }
@@ -214,8 +208,8 @@ fn events(s: &[u8], spot: Spot, at: &mut [u16], t: &mut [u8]) -> Spot
         let plain = faults::plain_event(s, p, spot::behind(h, inits, n, p));
         if !plain {
             return Spot {
-                p: p,
-                last: last,
+                p,
+                last,
                 x: spot::behind(h, inits, n, p),
                 t: k,
             };
@@ -223,8 +217,8 @@ fn events(s: &[u8], spot: Spot, at: &mut [u16], t: &mut [u8]) -> Spot
         let whole = faults::tear_clean(s, h.edition, p);
         if !whole {
             return Spot {
-                p: p,
-                last: last,
+                p,
+                last,
                 x: spot::behind(h, inits, n, p),
                 t: k,
             };
@@ -232,13 +226,13 @@ fn events(s: &[u8], spot: Spot, at: &mut [u16], t: &mut [u8]) -> Spot
         let next = spot::next_at(s, p) as u16;
         let a = shape_plain(s, h.edition, p);
         k = take_event(s, h.edition, p, n, a, k, at, t);
-        n = n + 1;
+        n += 1;
         last = 2;
         p = next;
     }
     Spot {
-        p: p,
-        last: last,
+        p,
+        last,
         x: spot::behind(h, inits, n, p),
         t: k,
     }
@@ -248,15 +242,11 @@ fn events(s: &[u8], spot: Spot, at: &mut [u16], t: &mut [u8]) -> Spot
 fn with_rows(x: Counts, n: u16, p: u16) -> Counts
     ensures { result ≡ with_rows x n p }
 {
-    let h = x.head;
     Counts {
-        head: h,
-        inits: x.inits,
-        events: x.events,
-        rows_at: x.rows_at,
         rows: n,
         pairs_at: p,
         pairs: 0,
+        ..x
     }
 }
 
@@ -276,19 +266,19 @@ fn rows(s: &[u8], spot: Spot, at: &[u16], t: &[u8; COLUMNS], q: &mut [u8]) -> Sp
         let plain = take_row::take(s, p, with_rows(x, n, p), at, t, q);
         if !plain {
             return Spot {
-                p: p,
-                last: last,
+                p,
+                last,
                 x: with_rows(x, n, p),
                 t: k,
             };
         }
-        n = n + 1;
+        n += 1;
         last = 3;
-        p = p + 6;
+        p += 6;
     }
     Spot {
-        p: p,
-        last: last,
+        p,
+        last,
         x: with_rows(x, n, p),
         t: k,
     }

@@ -37,11 +37,11 @@ fn data_at(edition: u8, p: u16, b: Shape, a: u8) -> u32
     p as u32 + FIELD_BYTES as u32 + sizes::event_bytes(edition) as u32 + past(b.start, a) as u32
 }
 
-// How much of its data stands before what an access wrote.
-fn passed(b: Shape) -> u8
+// How much of its data stands before what an access wrote. Without a jump: whether an event reads and writes is hard to foresee.
+pub fn passed(b: Shape) -> u8
     ensures { result ≡ passed b }
 {
-    if b.kind == 3 { b.width } else { 0 }
+    (b.kind == 3) as u8 * b.width
 }
 
 // Row j, with the byte that its reader saw and the byte that its writer wrote.

@@ -42,19 +42,12 @@ pub fn next_at(s: &[u8], p: u16) -> u32
 pub fn blank() -> Counts
     ensures { result ≡ blank_counts }
 {
-    Counts {
-        head: Head {
-            edition: 0,
-            agents: 0,
-            size: 0,
-        },
-        inits: 0,
-        events: 0,
-        rows_at: 0,
-        rows: 0,
-        pairs_at: 0,
-        pairs: 0,
-    }
+    let head = Head {
+        edition: 0,
+        agents: 0,
+        size: 0,
+    };
+    behind(head, 0, 0, 0)
 }
 
 // The counts behind n events, k of them inits, up to the place p.

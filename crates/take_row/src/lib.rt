@@ -37,13 +37,6 @@ fn seen_at(s: &[u8], edition: u8, p: u16, a: Shape, n: u8) -> u8
     field::byte(s, p as usize + front + (n - a.start) as usize)
 }
 
-// How much of its data stands before what an access wrote. Without a jump: whether an event reads and writes is hard to foresee.
-fn passed(a: Shape) -> u16
-    ensures { (result ≡ passed a) × (result ≤ 255) }
-{
-    (a.kind == 3) as u16 * a.width as u16
-}
-
 // The byte that it wrote there.
 fn wrote_at(s: &[u8], edition: u8, p: u16, a: Shape, n: u8) -> u8
     requires { a.start ≤ n }
@@ -52,7 +45,7 @@ fn wrote_at(s: &[u8], edition: u8, p: u16, a: Shape, n: u8) -> u8
     let front = FIELD_BYTES + sizes::event_bytes(edition) as usize;
     field::byte(
         s,
-        p as usize + front + (n - a.start) as usize + passed(a) as usize,
+        p as usize + front + (n - a.start) as usize + row_data::passed(a) as usize,
     )
 }
 

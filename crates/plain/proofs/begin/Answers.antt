@@ -16,5 +16,5 @@ overflow_cast-next c = let r = head_reach c.args.s.now c.requires (c.plain_head-
 
 pub returns : goal.returns
 returns c =
-    simp (c.behind.ensures, c.head_of.ensures, c.byte.ensures, c.value_at-v.ensures, c.next_at-next.ensures)
+    simp (c.start-2.ensures, c.behind.ensures, c.head_of.ensures, c.byte.ensures, c.value_at-v.ensures, c.next_at-next.ensures)
     (record { turn = head_next c.args.s.now c.requires (c.plain_head-plain.ensures.clean c.if-not-plain.false); tallied = tallied_start c.args.s.now _ blank_places }, λ t q. tabled_none c.args.s.now _ blank_places t q refl refl, record { low = omega arith; no_head_lem = λ e. absurd (omega arith) })

@@ -6,4 +6,4 @@ use lib.ListN.{get_or}
 use Rattle.take_row.proofs.wrote_at.Goals as goal
 
 pub returns : goal.returns
-returns c = let e = c.event_bytes.ensures in let f = c.passed.ensures.0 in c.byte.ensures ∙ ap (λ (i : ℕ). get_or c.args.s.now i 0) (omega arith)
+returns c = let e = c.event_bytes.ensures in let f = c.passed.ensures in c.byte.ensures ∙ ap (λ (i : ℕ). get_or c.args.s.now i 0) (omega arith)

@@ -1,6 +1,5 @@
 -- The laws of specs/Forced.antt: what bars force, one step of it after another. Assumes nothing.
---     clear_end                 a table all zero
---     led_start, led_more       a loop that copies masks
+--     led_copied                masks that are copied
 --     named_none, named_more, named_end     a loop that gathers the writers
 --     run_in_lem                    what is not placed yet is placed later
 --     forced_led                at first each event waits for what has to come before it
@@ -13,22 +12,25 @@
 --     forced_cycle              what waits for itself is never placed
 --     forces_none, forces_some      what does not fit, and what does
 --     numbers_fit, numbers_unfit    what the test of the numbers tells
---     Part, part_start, part_lowest, part_less, part_next     a loop over the members of a set, which takes the lowest that is left
+--     taken_old                 a loop over the members of a set: what is left was there
 --     forced_found, forced_dead, forced_searched     the first way, and that there is none, where each event waits so
-use Rattle.std.proofs.Common.{◌≡◌, ℕ, ◌+◌, ◌%◌, ◌^◌, ◌<◌, ◌≤◌, Bool, true, false, cond, ◌||◌, ltb, ◌⊎◌, List, [], ◌∷◌, ◌++◌, length, get_or, drop, set, replicate, sym, refl, ap, ◌∙◌, subst, inl, inr, ⊎_elim, mod-eq_of_lt, arith, length-set, drop_of_length-le, get_or-set_other, get_or-set_same, ltb-false, ltb-true, lt-ltb}
+use Rattle.std.proofs.Common.{◌≡◌, ℕ, ◌+◌, ◌-◌, ◌%◌, ◌<◌, ◌≤◌, Bool, true, false, cond, ◌||◌, ltb, ◌⊎◌, List, [], ◌∷◌, ◌++◌, length, get_or, drop, set, replicate, sym, refl, ap, ◌∙◌, subst, inl, inr, ⊎_elim, mod-eq_of_lt, arith, length-set, get_or-set_other, get_or-set_same, ltb-false, ltb-true, lt-ltb}
 use native.Mathlib.Decide.{ℕ_discrete, dec_lt}
 use lib.Bits.{bit_or}
-use lib.ListN.{get_or-replicate}
+use lib.ListN.{get_or-replicate, get_or-append, take, length-drop}
+use borrow.Rule.Slice.PartMut.{mid_of, post_of, put_mid, same_len_mid}
+use Rattle.std.proofs.lemmas.List.{get_or-take, get_or-drop, get_or-append_right, length-take-le}
+use Rattle.sets.specs.Members.{Taken}
 use Rattle.basis.specs.Test.{◌or◌}
 use Rattle.basis.proofs.BoolLaws.{not_both_ways, false_of, bar_or, bar_left, bar_right, bar_cases, or_holds, or_either, or_second}
-use Rattle.sets.specs.Mask.{slots, mem, Has, Within, full, insert, remove, Lowest}
-use Rattle.sets.proofs.MaskLaws.{mem_empty, ext_all, full_has, mem_lt, remove_lt, remove_old, mem_or, insert_old, insert_cases}
+use Rattle.sets.specs.Mask.{slots, mem, Has, Within, full, insert}
+use Rattle.sets.proofs.MaskLaws.{mem_empty, ext_all, full_has, remove_old, mem_or, insert_old, insert_cases}
 use Rattle.gather.specs.Writers.{bar_at}
 use Rattle.closing.specs.Closure.{taken, Reach, step, more, Closed}
 use Rattle.orders.specs.Problem.{Problem}
 use Rattle.orders.specs.Order.{In}
 use Rattle.orders.specs.First.{FirstOf}
-use Rattle.orders.specs.Step.{With, Below, Ready, Runs, Dead}
+use Rattle.orders.specs.Step.{With, Below, Runs, Dead}
 use Rattle.orders.specs.Tables.{tabled}
 use Rattle.orders.specs.Walk.{Searched}
 use Rattle.force.specs.Forced.{Waits, Forced, Pressed, Forces}
@@ -39,37 +41,9 @@ use Rattle.orders.proofs.FirstLaws.{first_map}
 none_has : (m a : ℕ) {A : Type 0} → m ≡ 0 → Has m a → A
 none_has m a e h = absurd (not_both_ways (subst (λ (x : ℕ). Has x a) e h) (mem_empty a))
 
--- what is left of the set m
-pub record Part (m left : ℕ) : Type 0 where
-  pub few : left < 2 ^ slots
-  pub of : Within left m
-
-pub part_start : (m : ℕ) → m < 2 ^ slots → Part m m
-part_start m h = record { few = h; of = λ e q. q }
-
-module _ {m left : ℕ} (p : Part m left) (v : ℕ) (low : Lowest left v) (some : left ≡ 0 → ⊥) where
-  pub part_lowest : Has left v × (v < slots)
-  part_lowest = let h = low.member (omega (arith, some)) in (h, mem_lt slots left v p.few h)
-
-  pub part_in : Has m v
-  part_in = p.of v part_lowest.0
-
-  module _ (rest : ℕ) (is : rest ≡ remove left (v % slots)) where
-    cut : rest ≡ remove left v
-    cut = is ∙ ap (remove left) (mod-eq_of_lt part_lowest.1)
-
-    pub part_less : rest < left
-    part_less = let a = remove_lt left v part_lowest.0 in let b = cut in omega arith
-
-    pub part_next : Part m rest
-    part_next =
-        record {
-          few = let a = part_less in let b = p.few in omega arith;
-          of = λ e q. p.of e (remove_old left v e (subst (λ (x : ℕ). Has x e) cut q));
-        }
-
-pub clear_end : (f : List ℕ) (i : ℕ) → i ≡ slots → length f ≡ slots → replicate i 0 ++ drop i f ≡ replicate slots 0
-clear_end f i e l = rw e (ap (λ (z : List ℕ). replicate slots 0 ++ z) (drop_of_length-le f {i = slots} (omega arith)))
+-- what is left was there
+pub taken_old : {left e t : ℕ} → Taken left e t → Within t left
+taken_old {left} {e} k v h = remove_old left e v (subst (λ (x : ℕ). Has x v) k.rest h)
 
 -- the set c has the writers of the first v events
 abbrev pub Gathering : List ℕ → ℕ → ℕ → Type 0
@@ -105,21 +79,19 @@ module _ (k m : ℕ) where
   numbers_unfit h f = ⊎_elim (λ z. let l = ltb-true m k z in omega (arith, l, f.0)) (λ z. let l = ltb-true slots m z in omega (arith, l, f.1)) (bar_cases _ _ h)
 
 -- masks copied from k on, into a table of zeros
-pub led_start : (k : ℕ) (before f : List ℕ) → k ≤ slots → f ≡ replicate slots 0 → Led k k before f
-led_start k before f few h =
-    record { size = ap length h; same = λ e a b. absurd (omega arith); blank = λ e a. ap (λ (l : List ℕ). get_or l e 0) h ∙ get_or-replicate slots e 0 0 (omega arith) }
-
-pub led_more : (k e : ℕ) (before f : List ℕ) → k ≤ e → e < slots → Led k e before f → Led k (e + 1) before (set f e (get_or before e 0))
-led_more k e before f low few i =
+pub led_copied : (k m : ℕ) (before f : List ℕ) → k ≤ m → m ≤ slots → length before ≡ slots → f ≡ replicate slots 0
+    → Led k m before (put_mid k (m - k) f (mid_of k (m - k) before))
+led_copied k m before f km few long h =
+    let d : length f ≡ slots = ap length h in
+    let z = length-drop k before in
+    let front : length (take k f) ≡ k = length-take-le k f (omega (arith, d)) in
+    let part : length (mid_of k (m - k) before) ≡ m - k = length-take-le (m - k) (drop k before) (omega (arith, z, long)) in
     record {
-      size = length-set f e (get_or before e 0) ∙ i.size;
-      same = λ d a b. go d a b (ℕ_discrete d e);
-      blank = λ d a. get_or-set_other f e d (get_or before e 0) 0 (λ q. absurd (omega arith)) ∙ i.blank d a;
+      size = same_len_mid k (m - k) f (mid_of k (m - k) before) (part ∙ sym (length-take-le (m - k) (drop k f) (let y = length-drop k f in omega (arith, y, d)))) ∙ d;
+      same = λ e a b. get_or-append_right (take k f) (mid_of k (m - k) before ++ post_of k (m - k) f) k e 0 front a ∙ get_or-append (mid_of k (m - k) before) (post_of k (m - k) f) 0 (e - k) (omega (arith, part))
+          ∙ get_or-take (m - k) (drop k before) (e - k) 0 (omega arith) ∙ get_or-drop k before (e - k) 0 ∙ ap (λ (x : ℕ). get_or before x 0) (let q : k + (e - k) ≡ e = omega arith in q);
+      blank = λ e a. get_or-append (take k f) (mid_of k (m - k) before ++ post_of k (m - k) f) 0 e (omega (arith, front)) ∙ get_or-take k f e 0 a ∙ ap (λ (l : List ℕ). get_or l e 0) h ∙ get_or-replicate slots e 0 0 (omega arith);
     }
-  where
-    go : (d : ℕ) → k ≤ d → d < e + 1 → Dec (d ≡ e) → get_or (set f e (get_or before e 0)) d 0 ≡ get_or before d 0
-    go d a b (yes q) = ap (λ (x : ℕ). get_or (set f e (get_or before e 0)) x 0) q ∙ get_or-set_same f e (get_or before e 0) 0 (let z = i.size in omega arith) ∙ ap (λ (x : ℕ). get_or before x 0) (sym q)
-    go d a b (no q) = get_or-set_other f e d (get_or before e 0) 0 q ∙ i.same d a (omega (arith, q))
 
 -- x waits for all that are B
 abbrev WaitsAt : ℕ → (ℕ → Type 0) → (ℕ → Type 0) → List ℕ → Type 0

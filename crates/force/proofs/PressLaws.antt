@@ -2,19 +2,19 @@
 --     presses_none              nothing pressed
 --     presses_first, presses_other     one bar, as the code presses it
 --     presses_more              a bar of an entry after others
---     entry_in, entry_start     the members of an entry's set that are events and no inits
+--     entry_in                  the members of an entry's set that are events and no inits
 --     presses_listed            an entry of a list
 --     list_fits, list_unfit     what the test of the numbers tells
-use Rattle.std.proofs.Common.{◌≡◌, ℕ, ◌%◌, ◌<◌, ◌≤◌, min, Bool, true, false, cond, ◌&&◌, ◌||◌, ltb, List, length, get_or, set, sym, refl, ap, ◌∙◌, ⊎_elim, mod-eq_of_lt, arith, length-set, ltb-false, ltb-true}
+use Rattle.std.proofs.Common.{◌≡◌, ℕ, ◌%◌, ◌<◌, ◌≤◌, min, Bool, true, false, cond, ◌||◌, ltb, List, length, get_or, set, sym, refl, ap, ◌∙◌, ⊎_elim, mod-eq_of_lt, arith, length-set, ltb-false, ltb-true}
 use lib.Bits.{bit_and}
 use Rattle.basis.proofs.BoolLaws.{not_both_ways, false_of, and_parts, bar_left, bar_right, bar_cases}
 use Rattle.sets.specs.Mask.{slots, mem, Has, insert, Rest}
-use Rattle.sets.proofs.MaskLaws.{mem_and, lt_of_members}
+use Rattle.sets.proofs.MaskLaws.{mem_and}
 use Rattle.orders.specs.Tables.{tabled}
 use Rattle.orders.specs.Listed.{list_room, listed_bars}
 use Rattle.force.specs.Forced.{Forced}
 use Rattle.force.specs.steps.Press.{AtOne, AtEach, Presses}
-use Rattle.force.proofs.ForcedLaws.{numbers_fit, numbers_unfit, Part, part_start, bar_first, press_other}
+use Rattle.force.proofs.ForcedLaws.{numbers_fit, numbers_unfit, bar_first, press_other}
 use Rattle.orders.proofs.ListedLaws.{listed_intro}
 
 module _ {k m : ℕ} {f : List ℕ} (size : length f ≡ slots) where
@@ -48,9 +48,6 @@ module _ {k m x : ℕ} (few : m ≤ slots) (u : Rest 0 k (min m slots) x) (b : �
       let p = and_parts _ _ (sym (mem_and x b v) ∙ h) in
       let o = u.only v p.0 in
       (o.0, omega (arith, o.1, few), p.1)
-
-  pub entry_start : Part (bit_and x b) (bit_and x b)
-  entry_start = part_start (bit_and x b) (lt_of_members slots (bit_and x b) (λ v h. let l = (entry_in v h).1 in omega (arith, l, few)))
 
 module _ (m k : ℕ) (before between readers writers : List ℕ) (n i : ℕ) (few : m ≤ slots) (in_List : i < n) {f g : List ℕ} where
   pub presses_listed : Presses k m (AtEach m (get_or readers i 0 % slots) (get_or writers i 0 % slots) (get_or between i 0)) f g

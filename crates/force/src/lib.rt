@@ -23,9 +23,7 @@ fn clear(f: &mut [u32])
     requires { length f.old ≡ slots }
     ensures { f.new ≡ replicate slots 0 }
 {
-    for e in 0..SLOTS {
-        f[e] = 0;
-    }
+    f.fill(0);
 }
 
 // At first each event waits for what has to come before it, an init for nothing.
@@ -33,9 +31,7 @@ fn lead(k: usize, m: usize, before: &[u32; SLOTS], f: &mut [u32])
     requires { (k ≤ m) × (m ≤ slots) × (f.old ≡ replicate slots 0) }
     ensures { Led k m before.now f.new }
 {
-    for e in k..m {
-        f[e] = before[e];
-    }
+    f[k..m].copy_from_slice(&before[k..m]);
 }
 
 // Whether some event waits for itself.
@@ -55,11 +51,7 @@ fn cyclic(k: usize, m: usize, f: &[u32]) -> bool
 fn weight(m: usize, f: &[u32]) -> u32
     requires { m ≤ length f.now }
 {
-    let mut n: u32 = 0;
-    for v in 0..m {
-        n = std::num::wrapping_add_u32(n, f[v]);
-    }
-    n
+    f[..m].iter().fold(0, |n: u32, x| n.wrapping_add(*x))
 }
 
 // ---- by the table of bars
@@ -69,13 +61,10 @@ fn waited(m: u32, v: usize, f: &[u32]) -> bool
     requires { (v < slots) × (slots ≤ length f.now) }
     ensures { Waited m v f.now result }
 {
-    let mut left = m;
-    while left != 0 {
-        let r = sets::lowest(left);
+    for r in sets::members(m) {
         if sets::has(f[r], v) {
             return true;
         }
-        left = sets::without(left, r);
     }
     false
 }
@@ -119,11 +108,8 @@ fn press_event(
     requires { Forced (tabled m before.now bars.now) k before.now f.old × (k ≤ v) × (v < m) × (m ≤ slots) × ((w : ℕ) → Has writers w → w < m) }
     ensures { Forced (tabled m before.now bars.now) k before.now f.new }
 {
-    let mut left = writers;
-    while left != 0 {
-        let w = sets::lowest(left);
+    for w in sets::members(writers) {
         press(k, m, before, bars, v, w, f);
-        left = sets::without(left, w);
     }
 }
 
@@ -161,8 +147,7 @@ fn press_on(
     ensures { Pressed (tabled m before.now bars.now) k before.now result f.new }
 {
     let mut had = weight(m, f);
-    let mut round: usize = 0;
-    while round < ROUNDS {
+    for _ in 0..ROUNDS {
         press_all(k, m, before, bars, writers, f);
         if cyclic(k, m, f) {
             return true;
@@ -172,7 +157,6 @@ fn press_on(
             return false;
         }
         had = has;
-        round += 1;
     }
     false
 }
@@ -183,8 +167,8 @@ fn named(m: usize, writers: &[u32; SLOTS]) -> bool
     ensures { result ≡ true → Named m writers.now }
 {
     let mut c: u32 = 0;
-    for v in 0..m {
-        c = c | writers[v];
+    for w in &writers[..m] {
+        c |= w;
     }
     sets::subset(c, sets::full(m))
 }
@@ -220,13 +204,6 @@ pub fn by_table(
 
 // ---- the same by a list of bars
 
-// The event that an entry names.
-fn wide(e: u8) -> usize
-    ensures { result ≡ e }
-{
-    e as usize
-}
-
 // The bar (reader, writer, v). Where the writer is placed before v, the reader has to be; where v has to be placed before the reader, it has to be
 // before the writer. Where both are so v waits for itself, and is told so at once.
 fn press_bar(k: usize, m: usize, reader: usize, writer: usize, v: usize, f: &mut [u32])
@@ -255,11 +232,8 @@ fn press_entry(k: usize, m: usize, between: u32, reader: usize, writer: usize, f
     if m <= writer {
         return;
     }
-    let mut left = sets::rest(0, k, m) & between;
-    while left != 0 {
-        let v = sets::lowest(left);
+    for v in sets::members(sets::rest(0, k, m) & between) {
         press_bar(k, m, reader, writer, v, f);
-        left = sets::without(left, v);
     }
 }
 
@@ -278,8 +252,8 @@ fn press_list(
     ensures { Forced (tabled m before.now (listed_bars between.now readers.now writers.now n)) k before.now f.new }
 {
     for i in 0..n {
-        let reader = wide(readers[i]) % SLOTS;
-        let writer = wide(writers[i]) % SLOTS;
+        let reader = readers[i] as usize % SLOTS;
+        let writer = writers[i] as usize % SLOTS;
         press_entry(k, m, between[i], reader, writer, f);
     }
 }
@@ -299,8 +273,7 @@ fn press_list_on(
     ensures { Pressed (tabled m before.now (listed_bars between.now readers.now writers.now n)) k before.now result f.new }
 {
     let mut had = weight(m, f);
-    let mut round: usize = 0;
-    while round < ROUNDS {
+    for _ in 0..ROUNDS {
         press_list(k, m, before, between, readers, writers, n, f);
         if cyclic(k, m, f) {
             return true;
@@ -314,7 +287,6 @@ fn press_list_on(
             return false;
         }
         had = has;
-        round += 1;
     }
     false
 }

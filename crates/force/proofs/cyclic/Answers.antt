@@ -1,5 +1,5 @@
 -- `force::cyclic` meets its contract. The measure is what is left. Assumes nothing.
-use Rattle.std.proofs.Common.{◌-◌, get_or, sym, ap, ◌∙◌, mod-eq_of_lt, arith}
+use Rattle.std.proofs.Common.{get_or, sym, ap, ◌∙◌, mod-eq_of_lt, arith}
 use mathlib.Core.Bool.{false≢true}
 use Rattle.sets.specs.Mask.{mem}
 use Rattle.force.proofs.cyclic.Goals as goal

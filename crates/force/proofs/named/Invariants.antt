@@ -1,10 +1,6 @@
--- `force::named` meets its contract: c has the writers of the first v events. The measure is what is left. Assumes nothing.
-use Rattle.std.proofs.Common.{◌-◌, ◌≤◌}
+-- `force::named` meets its contract: c has the writers of the events so far. Assumes nothing.
 use Rattle.force.proofs.ForcedLaws.{Gathering}
 use Rattle.force.proofs.named.Given as goal
 
-abbrev pub invariant-loop-v : goal.invariant-loop-v
-invariant-loop-v l = (l.v ≤ l.m) × Gathering l.writers l.v l.c
-
-abbrev pub decreases-loop-v : goal.decreases-loop-v
-decreases-loop-v l = l.m - l.v
+abbrev pub invariant-loop-w : goal.invariant-loop-w
+invariant-loop-w l = Gathering l.writers l.w-index l.c

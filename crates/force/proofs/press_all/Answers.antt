@@ -1,5 +1,5 @@
 -- `force::press_all` meets its contract: bar by bar, and closed. The measure is what is left. Assumes nothing.
-use Rattle.std.proofs.Common.{◌-◌, sym, ◌∙◌, arith}
+use Rattle.std.proofs.Common.{sym, ◌∙◌, arith}
 use Rattle.force.proofs.ForcedLaws.{forced_close}
 use Rattle.force.proofs.press_all.Goals as goal
 

@@ -1,11 +1,8 @@
--- `force::press_event` meets its contract: `left` is a part of the writers. The measure is `left`, which gets smaller as a number. Assumes nothing.
+-- `force::press_event` meets its contract: what is left is a part of the writers. Assumes nothing.
+use Rattle.sets.specs.Mask.{Within}
 use Rattle.orders.specs.Tables.{tabled}
 use Rattle.force.specs.Forced.{Forced}
-use Rattle.force.proofs.ForcedLaws.{Part}
 use Rattle.force.proofs.press_event.Given as goal
 
-abbrev pub invariant-loop-left : goal.invariant-loop-left
-invariant-loop-left l = Part l.writers l.left × Forced (tabled l.m l.before l.bars) l.k l.before l.f
-
-abbrev pub decreases-loop-left : goal.decreases-loop-left
-decreases-loop-left l = l.left
+abbrev pub invariant-loop-w : goal.invariant-loop-w
+invariant-loop-w l = Within l.w-iterator.left l.writers × Forced (tabled l.m l.before l.bars) l.k l.before l.f

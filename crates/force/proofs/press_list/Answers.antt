@@ -1,7 +1,5 @@
 -- `force::press_list` meets its contract: entry by entry. The measure is what is left. Assumes nothing.
-use Rattle.std.proofs.Common.{ℕ, ◌-◌, ◌%◌, get_or, sym, ◌∙◌, subst, arith}
-use Rattle.sets.specs.Mask.{slots}
-use Rattle.force.specs.steps.Press.{AtEach, Presses}
+use Rattle.std.proofs.Common.{sym, ◌∙◌, arith}
 use Rattle.force.proofs.PressLaws.{presses_listed}
 use Rattle.force.proofs.press_list.Goals as goal
 
@@ -15,10 +13,7 @@ pub loop-i-preserved : goal.loop-i-preserved
 loop-i-preserved c =
     let a = c.args in
     let l = c.loop-i in
-    let p = subst (λ (r : ℕ). Presses a.k a.m (AtEach a.m (r % slots) (c.wide-writer.result % slots) (get_or a.between.now l.i 0)) l.f c.press_entry.new.f) c.wide-reader.ensures c.press_entry.ensures in
-    presses_listed a.m a.k a.before.now a.between.now a.readers.now a.writers.now a.n l.i c.requires.2 c.loop-i-test.true
-    (subst (λ (w : ℕ). Presses a.k a.m (AtEach a.m (get_or a.readers.now l.i 0 % slots) (w % slots) (get_or a.between.now l.i 0)) l.f c.press_entry.new.f) c.wide-writer.ensures p)
-    l.invariant
+    presses_listed a.m a.k a.before.now a.between.now a.readers.now a.writers.now a.n l.i c.requires.2 c.loop-i-test.true c.press_entry.ensures l.invariant
 
 pub shape_of-f : goal.shape_of-f
 shape_of-f c = c.loop-i.invariant.size ∙ sym c.requires.0.size

@@ -1,11 +1,7 @@
--- `force::press_on` meets its contract: what is in the masks stays forced. The measure is the rounds that are left. Assumes nothing.
-use Rattle.std.proofs.Common.{◌-◌}
+-- `force::press_on` meets its contract: what is in the masks stays forced. Assumes nothing.
 use Rattle.orders.specs.Tables.{tabled}
 use Rattle.force.specs.Forced.{Forced}
 use Rattle.force.proofs.press_on.Given as goal
 
-abbrev pub invariant-loop-round : goal.invariant-loop-round
-invariant-loop-round l = Forced (tabled l.m l.before l.bars) l.k l.before l.f
-
-abbrev pub decreases-loop-round : goal.decreases-loop-round
-decreases-loop-round l = 8 - l.round
+abbrev pub invariant-loop : goal.invariant-loop
+invariant-loop l = Forced (tabled l.m l.before l.bars) l.k l.before l.f

@@ -1,9 +1,6 @@
--- `force::waited` meets its contract: `left` is a part of the set. The measure is `left`, which gets smaller as a number. Assumes nothing.
-use Rattle.force.proofs.ForcedLaws.{Part}
+-- `force::waited` meets its contract: what is left is a part of the set. Assumes nothing.
+use Rattle.sets.specs.Mask.{Within}
 use Rattle.force.proofs.waited.Given as goal
 
-abbrev pub invariant-loop-left : goal.invariant-loop-left
-invariant-loop-left l = Part l.m l.left
-
-abbrev pub decreases-loop-left : goal.decreases-loop-left
-decreases-loop-left l = l.left
+abbrev pub invariant-loop-r : goal.invariant-loop-r
+invariant-loop-r l = Within l.r-iterator.left l.m

@@ -27,8 +27,7 @@ use Rattle.model.proofs.Sound.{sound}
 use Rattle.model.proofs.JudgedLaws.{moved, same_whole, never_both}
 use Rattle.front.specs.Tabled.{hb_of, found_of, Held}
 use Rattle.front.proofs.SheetLaws.{sheet_held, sheet_rules, held_row}
-use Rattle.log_order.specs.declared.Said.{Said}
-use Rattle.log_order.specs.Listed.{list_fault, said_of}
+use Rattle.log_order.specs.Listed.{Said, list_fault, said_of}
 use Rattle.log_order.specs.Trial.{trial_in}
 use Rattle.log_order.proofs.TrialLaws.{fault_same}
 use Rattle.log_check.specs.declared.Reply.{Reply}

@@ -36,9 +36,8 @@ use Rattle.model.proofs.JudgedLaws.{admitted_whole, Short, scratch_short, order_
 use Rattle.model.proofs.Demands.{testable, demand3}
 use Rattle.log_order.specs.declared.Fault.{Fault}
 use Rattle.log_order.specs.declared.Fault.TheVariants.{WrongLength, BadNumber, TooEarly, Barred}
-use Rattle.log_order.specs.declared.Said.{Said}
-use Rattle.log_order.specs.declared.Said.TheVariants.{Accepted, Rejected}
-use Rattle.log_order.specs.Listed.{list_fault, said_of}
+use Rattle.std.specs.Prelude.{Ok, Err}
+use Rattle.log_order.specs.Listed.{Said, list_fault, said_of}
 use Rattle.log_order.specs.Means.{Means}
 use Rattle.log_order.specs.Promises.{Strict}
 use Rattle.log_order.proofs.ListLaws.{has_length}
@@ -79,7 +78,7 @@ module _ (x : Execution) (hb : ℕ → ℕ → Bool) (so : Sound x) (tests : Tes
         apart = λ a t. find_none (breaks22 hb) _ (clean x hb unbroken).c22 a (number_mem x a (happens_inside x so ((tests a a).0 t)).0) t;
       }
 
-  meets_iff : (l : List ℕ) → (said_of (list_fault (trial x hb) l) ≡ Accepted) ↔ Meets (problem x hb) l
+  meets_iff : (l : List ℕ) → (said_of (list_fault (trial x hb) l) ≡ (Ok tt)) ↔ Meets (problem x hb) l
   unfolding bar
   meets_iff l = accepted_is_meets (trial x hb) strict l
 
@@ -107,9 +106,9 @@ module _ (s l : List ℕ) (x : Execution) (hb : ℕ → ℕ → Bool) (d : parse
   broken_of : (f : RuleFault) → fault x hb ≡ some f → (r : Reply) → Checked s l r → r ≡ Broken f.number f.names
   broken_of f u r j = checked_unique s l r (Broken f.number f.names) j (record { execution = x; describes = d; hb = hb; tests = tests; breaks = u })
 
-  exactly_meets : (r : Reply) → Checked s l r → (r ≡ Listed Accepted) ↔ ((fault x hb ≡ none) × Meets (problem x hb) l)
+  exactly_meets : (r : Reply) → Checked s l r → (r ≡ Listed (Ok tt)) ↔ ((fault x hb ≡ none) × Meets (problem x hb) l)
   exactly_meets r j = (
-    (λ e. let t = tells Accepted (subst (Checked s l) e j) in (t.unbroken, (meets_iff x hb so tests t.unbroken l).0 (sym t.says))),
+    (λ e. let t = tells (Ok tt) (subst (Checked s l) e j) in (t.unbroken, (meets_iff x hb so tests t.unbroken l).0 (sym t.says))),
     (λ m. said_of_lem m.0 r j ∙ ap Listed ((meets_iff x hb so tests m.0 l).1 m.1)),
   )
 
@@ -122,7 +121,7 @@ accepted_exactly s l r x hb w tests j = exactly_meets s l x hb (whole_of s x w) 
 pub fault_named : FaultNamed
 fault_named s l f x hb w tests j =
     let d = whole_of s x w in
-    let t = tells s l x hb d tests (Rejected f) j in
+    let t = tells s l x hb d tests (Err f) j in
     (t.unbroken, fault_means_it (trial x hb) (strict x hb (sound x (promise s x d)) tests t.unbroken) l f (sym t.says))
 
 -- ---- beside the judge
@@ -141,10 +140,10 @@ as_the_judge s l scratch order (JudgeBroken n names) scratch' order' r j k = go 
     d = (admitted_whole s (length scratch) (length order) j.execution j.describes).describes
 
     rejected : fault j.execution j.hb ≡ none → ((o : List ℕ) → Meets (problem j.execution j.hb) o → ⊥) → (said : Said)
-        → said ≡ said_of (list_fault (trial j.execution j.hb) l) → (f : Fault) × (Listed said ≡ Listed (Rejected f))
-    rejected u none_meets Accepted e =
+        → said ≡ said_of (list_fault (trial j.execution j.hb) l) → (f : Fault) × (Listed said ≡ Listed (Err f))
+    rejected u none_meets (Ok v) e =
         absurd (none_meets l ((meets_iff j.execution j.hb (sound j.execution (promise s j.execution d)) j.tests u l).0 (sym e)))
-    rejected u none_meets (Rejected f) e = (f, refl)
+    rejected u none_meets (Err f) e = (f, refl)
 
     go : Breaks j.execution j.hb (faulty n names) → Alike (JudgeBroken n names) r
     go (inl e) = inl (broken_of s l j.execution j.hb d j.tests (faulty n names) e r k)
@@ -166,9 +165,9 @@ reported_accepted s scratch order t scratch' order' x r w j k =
 pub accepted_consistent : AcceptedConsistent
 accepted_consistent s l scratch order (JudgeRefused n p) scratch' order' k j here = absurd (here (n, p, refl))
 accepted_consistent s l scratch order (JudgeBroken n names) scratch' order' k j here =
-    absurd (⊎_elim (λ e. let z : ◌≡◌ {A = ℕ} 0 1 = cc in omega arith) (λ w. rejects w.1.0 w.1.1) (as_the_judge s l scratch order (JudgeBroken n names) scratch' order' (Listed Accepted) j k))
+    absurd (⊎_elim (λ e. let z : ◌≡◌ {A = ℕ} 0 1 = cc in omega arith) (λ w. rejects w.1.0 w.1.1) (as_the_judge s l scratch order (JudgeBroken n names) scratch' order' (Listed (Ok tt)) j k))
   where
-    rejects : (f : Fault) → Listed Accepted ≡ Listed (Rejected f) → ⊥
+    rejects : (f : Fault) → Listed (Ok tt) ≡ Listed (Err f) → ⊥
     rejects f e = let z : ◌≡◌ {A = ℕ} 0 1 = cc in omega arith
 accepted_consistent s l scratch order (Consistent t) scratch' order' k j here = (t, refl)
 
@@ -190,11 +189,11 @@ replays =
     record {
       orderly = λ s l x hb w tests o k m.
           let d = whole_of s x w in
-          let a = (exactly_meets s l x hb d tests (Listed Accepted) k).0 refl in
+          let a = (exactly_meets s l x hb d tests (Listed (Ok tt)) k).0 refl in
           explains x hb (sound x (promise s x d)) tests a.0 o l a.1 m;
       judged = λ s l scratch order scratch' order' x w j k m.
           let t = testable s x w in
-          let a = (exactly_meets s l x t.0 (whole_of s x w) t.1 (Listed Accepted) k).0 refl in
+          let a = (exactly_meets s l x t.0 (whole_of s x w) t.1 (Listed (Ok tt)) k).0 refl in
           demand3 s scratch order scratch' order' x t.0 w t.1 j l a.1 m;
     }
 
@@ -225,8 +224,8 @@ module _ (x : Execution) (hb : ℕ → ℕ → Bool) (wf : WellFormed x) (l : Li
 pub checked_fits : (s l : List ℕ) (r : Reply) → Checked s l r → FitsReply r
 checked_fits s l (Refused n p) j = refused_fits s n p j.says
 checked_fits s l (Broken n names) j = broken_fits s n names j
-checked_fits s l (Listed Accepted) j = tt
-checked_fits s l (Listed (Rejected f)) j =
+checked_fits s l (Listed (Ok u)) j = tt
+checked_fits s l (Listed (Err f)) j =
     let wf = promise s j.execution j.describes in
     fault_fits j.execution j.hb wf l f
     (fault_means_it (trial j.execution j.hb) (strict j.execution j.hb (sound j.execution wf) j.tests j.unbroken) l f (sym j.says))

@@ -11,7 +11,7 @@ use Rattle.answer.proofs.WordLaws.{four_more, four_below}
 use Rattle.answer.proofs.ReadLaws.{bytes_in, kind_in_lem, number_in_lem, place_in_lem, answer_in_lem}
 use Rattle.log_order.specs.declared.Fault.{Fault}
 use Rattle.log_order.specs.declared.Fault.TheVariants.{WrongLength, BadNumber, TooEarly, Barred}
-use Rattle.log_order.specs.declared.Said.TheVariants.{Accepted, Rejected}
+use Rattle.std.specs.Prelude.{Ok, Err}
 use Rattle.log_check.specs.declared.Reply.{Reply}
 use Rattle.log_check.specs.declared.Reply.TheVariants.{Refused, Broken, Listed}
 use Rattle.log_check.specs.Word.{fault_number, fault_rest, checked_word, fault_in, answered, reply_in, FitsFault, FitsReply}
@@ -43,6 +43,6 @@ reply_in_lem (Refused n p) h = rw (kind_in_lem 1 n p (omega arith) h.0 h.1) (ap 
 reply_in_lem (Broken n names) h =
     rw (kind_in_lem 2 n (four_bytes (names_of names)) (omega arith) h.0 (four_below (names_of names) (four_more (names_of names) h.1)))
     (ap answered (answer_in_lem (AnswerBroken n names) h))
-reply_in_lem (Listed Accepted) h = refl
-reply_in_lem (Listed (Rejected f)) h =
-    rw (kind_in_lem 7 (fault_number f) (fault_rest f) (omega arith) (number_small f) (rest_small f h)) (ap (λ (g : Fault). Listed (Rejected g)) (fault_in_lem f h))
+reply_in_lem (Listed (Ok u)) h = refl
+reply_in_lem (Listed (Err f)) h =
+    rw (kind_in_lem 7 (fault_number f) (fault_rest f) (omega arith) (number_small f) (rest_small f h)) (ap (λ (g : Fault). Listed (Err g)) (fault_in_lem f h))

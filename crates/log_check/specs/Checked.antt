@@ -10,8 +10,7 @@ use Rattle.parse.specs.Parse.{refused, whole, parse}
 use Rattle.model.specs.Happens.{Tests}
 use Rattle.model.specs.Rules.{Fault, faulty, fault}
 use Rattle.model.specs.Bar.{row_bars}
-use Rattle.log_order.specs.declared.Said.{Said}
-use Rattle.log_order.specs.Listed.{Trial, list_fault, said_of}
+use Rattle.log_order.specs.Listed.{Said, Trial, list_fault, said_of}
 use Rattle.log_check.specs.declared.Reply.{Reply}
 use Rattle.log_check.specs.declared.Reply.TheVariants.{Refused, Broken, Listed}
 

@@ -8,6 +8,7 @@
 --     Replays              accepted and orderly: run in the order of the list on a plain memory, each read gets its bytes (demand 3)
 --     FitsWord             every reply is read back from its word
 -- Assumes nothing.
+use Rattle.log_order.specs.Listed.{Said}
 use Rattle.std.specs.Prelude.{◌≡◌, ◌⊎◌, ◌↔◌, Bool, List, ℕ, length, take}
 use Rattle.std.proofs.Math.Option.{none}
 use Rattle.format.specs.Execution.{Execution}
@@ -26,8 +27,7 @@ use Rattle.model.specs.Memory.{Explains}
 use Rattle.model.specs.Judged.{Judged}
 use Rattle.model.specs.Demands.{IsRefused, IsConsistent}
 use Rattle.log_order.specs.declared.Fault.{Fault}
-use Rattle.log_order.specs.declared.Said.{Said}
-use Rattle.log_order.specs.declared.Said.TheVariants.{Accepted, Rejected}
+use Rattle.std.specs.Prelude.{Ok, Err}
 use Rattle.log_order.specs.Means.{Means}
 use Rattle.log_check.specs.declared.Reply.{Reply}
 use Rattle.log_check.specs.declared.Reply.TheVariants.{Refused, Broken, Listed}
@@ -45,17 +45,17 @@ Agreement = (s l : List ℕ) (a b : Reply) → Checked s l a → Checked s l b �
 -- 02 §5: "accept exactly when the list names every event once and the order meets the rules of 01"
 abbrev pub AcceptedExactly : Type 0
 AcceptedExactly = (s l : List ℕ) (r : Reply) (x : Execution) (hb : ℕ → ℕ → Bool) → WellSheet s x → Tests x hb → Checked s l r
-    → (r ≡ Listed Accepted) ↔ ((fault x hb ≡ none) × Meets (problem x hb) l)
+    → (r ≡ Listed (Ok tt)) ↔ ((fault x hb ≡ none) × Meets (problem x hb) l)
 
 -- 02 §5: "Otherwise give the first fault: .."
 abbrev pub FaultNamed : Type 0
-FaultNamed = (s l : List ℕ) (f : Fault) (x : Execution) (hb : ℕ → ℕ → Bool) → WellSheet s x → Tests x hb → Checked s l (Listed (Rejected f))
+FaultNamed = (s l : List ℕ) (f : Fault) (x : Execution) (hb : ℕ → ℕ → Bool) → WellSheet s x → Tests x hb → Checked s l (Listed (Err f))
     → (fault x hb ≡ none) × Means (trial x hb) l f
 
 -- 02 §5: "A sheet that is refused or broken by 21 to 25 is answered so first, as 01 does". The judge lent too little says 12 or 13; 26 is of orders.
 abbrev pub Alike : Answer → Reply → Type 0
 Alike (JudgeRefused n p) r = (r ≡ Refused n p) ⊎ ((n ≡ 12) ⊎ (n ≡ 13))
-Alike (JudgeBroken n names) r = (r ≡ Broken n names) ⊎ ((n ≡ 26) × ((f : Fault) × (r ≡ Listed (Rejected f))))
+Alike (JudgeBroken n names) r = (r ≡ Broken n names) ⊎ ((n ≡ 26) × ((f : Fault) × (r ≡ Listed (Err f))))
 Alike (Consistent t) r = (said : Said) × (r ≡ Listed said)
 
 abbrev pub AsTheJudge : Type 0
@@ -65,22 +65,22 @@ AsTheJudge = (s l scratch order : List ℕ) (a : Answer) (scratch' order' : List
 -- 02 §5: "Every order the judge reports must be accepted here."
 abbrev pub ReportedAccepted : Type 0
 ReportedAccepted = (s scratch order : List ℕ) (t : Settled) (scratch' order' : List ℕ) (x : Execution) (r : Reply) → WellSheet s x
-    → Judged s scratch order (Consistent t) scratch' order' → Checked s (take (length x.events) order') r → r ≡ Listed Accepted
+    → Judged s scratch order (Consistent t) scratch' order' → Checked s (take (length x.events) order') r → r ≡ Listed (Ok tt)
 
 abbrev pub AcceptedConsistent : Type 0
-AcceptedConsistent = (s l scratch order : List ℕ) (a : Answer) (scratch' order' : List ℕ) → Checked s l (Listed Accepted)
+AcceptedConsistent = (s l scratch order : List ℕ) (a : Answer) (scratch' order' : List ℕ) → Checked s l (Listed (Ok tt))
     → Judged s scratch order a scratch' order' → (IsRefused a → ⊥) → IsConsistent a
 
 abbrev pub NoneAccepted : Type 0
 NoneAccepted = (s l scratch order : List ℕ) (names : Names) (scratch' order' : List ℕ) → Judged s scratch order (JudgeBroken 26 names) scratch' order'
-    → Checked s l (Listed Accepted) → ⊥
+    → Checked s l (Listed (Ok tt)) → ⊥
 
 -- 02 §5: "Demand 3 covers accepted lists too." Whether the execution is orderly is the judge's answer.
 pub record Replays : Type 0 where
-  pub orderly : (s l : List ℕ) (x : Execution) (hb : ℕ → ℕ → Bool) → WellSheet s x → Tests x hb → Orderly x hb → Checked s l (Listed Accepted)
+  pub orderly : (s l : List ℕ) (x : Execution) (hb : ℕ → ℕ → Bool) → WellSheet s x → Tests x hb → Orderly x hb → Checked s l (Listed (Ok tt))
       → (m : ℕ → ℕ) → Explains x m l
   pub judged : (s l scratch order scratch' order' : List ℕ) (x : Execution) → WellSheet s x → Judged s scratch order (Consistent AllSettled) scratch' order'
-      → Checked s l (Listed Accepted) → (m : ℕ → ℕ) → Explains x m l
+      → Checked s l (Listed (Ok tt)) → (m : ℕ → ℕ) → Explains x m l
 
 abbrev pub FitsWord : Type 0
 FitsWord = (s l : List ℕ) (r : Reply) → Checked s l r → reply_in (checked_word r) ≡ r

@@ -10,7 +10,7 @@ use Rattle.answer.specs.declared.Names.TheVariants.{Row as OfRow, Torn}
 use Rattle.model.specs.Litmus.{unordered, sc, sheet, head, init, read, write, marker, head_2, tear, row, pair}
 use Rattle.log_order.specs.declared.Fault.{Fault}
 use Rattle.log_order.specs.declared.Fault.TheVariants.{WrongLength, BadNumber, TooEarly, Barred}
-use Rattle.log_order.specs.declared.Said.TheVariants.{Accepted, Rejected}
+use Rattle.std.specs.Prelude.{Ok, Err}
 use Rattle.log_check.specs.declared.Reply.{Reply}
 use Rattle.log_check.specs.declared.Reply.TheVariants.{Refused, Broken, Listed}
 use Rattle.log_check.specs.Checked.{Checked}
@@ -24,10 +24,10 @@ abbrev pub of : List ℕ → List ℕ → Reply → Example
 of s l r = record { sheet = s; list = l; reply = r }
 
 abbrev pub accepted : Reply
-accepted = Listed Accepted
+accepted = Listed (Ok tt)
 
 abbrev pub not : Fault → Reply
-not f = Listed (Rejected f)
+not f = Listed (Err f)
 
 -- A1 x=1 sc, A2 x=2 sc, A3 x reads 1 sc: event 2 may not stand between 1 and 3, by (a)
 abbrev pub a : List ℕ

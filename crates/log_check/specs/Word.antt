@@ -4,6 +4,7 @@
 --     reply_in w                                         the reply
 --     FitsReply x                                       what the word can hold
 -- Assumes nothing.
+use Rattle.log_order.specs.Listed.{Said}
 use Rattle.std.specs.Prelude.{cond, ℕ, ◌^◌, ◌<◌, eqb}
 use Rattle.answer.specs.declared.Answer.{Answer}
 use Rattle.answer.specs.declared.Answer.TheVariants.{Refused as AnswerRefused, Broken as AnswerBroken, Consistent}
@@ -14,8 +15,7 @@ use Rattle.answer.specs.Fit.{Fits}
 use Rattle.answer.specs.Read.{kind_in, number_in, place_in, byte_in, answer_in}
 use Rattle.log_order.specs.declared.Fault.{Fault}
 use Rattle.log_order.specs.declared.Fault.TheVariants.{WrongLength, BadNumber, TooEarly, Barred}
-use Rattle.log_order.specs.declared.Said.{Said}
-use Rattle.log_order.specs.declared.Said.TheVariants.{Accepted, Rejected}
+use Rattle.std.specs.Prelude.{Ok, Err}
 use Rattle.log_check.specs.declared.Reply.{Reply}
 use Rattle.log_check.specs.declared.Reply.TheVariants.{Refused, Broken, Listed}
 
@@ -34,8 +34,8 @@ fault_rest (TooEarly i) = i
 fault_rest (Barred r w v a) = four_bytes (names_of (Between r w v a))
 
 abbrev pub said_word : Said → ℕ
-said_word Accepted = word 6 0 0
-said_word (Rejected f) = word 7 (fault_number f) (fault_rest f)
+said_word (Ok u) = word 6 0 0
+said_word (Err f) = word 7 (fault_number f) (fault_rest f)
 
 abbrev pub checked_word : Reply → ℕ
 checked_word (Refused n p) = packed (AnswerRefused n p)
@@ -53,10 +53,10 @@ fault_in w =
 abbrev pub answered : Answer → Reply
 answered (AnswerRefused n p) = Refused n p
 answered (AnswerBroken n names) = Broken n names
-answered (Consistent s) = Listed Accepted
+answered (Consistent s) = Listed (Ok tt)
 
 unfoldable pub reply_in : ℕ → Reply
-reply_in w = cond (eqb (kind_in w) 7) (Listed (Rejected (fault_in w))) (cond (eqb (kind_in w) 6) (Listed Accepted) (answered (answer_in w)))
+reply_in w = cond (eqb (kind_in w) 7) (Listed (Err (fault_in w))) (cond (eqb (kind_in w) 6) (Listed (Ok tt)) (answered (answer_in w)))
 
 -- ---- what fits
 
@@ -67,8 +67,8 @@ FitsFault (TooEarly i) = i < 2 ^ 32
 FitsFault (Barred r w v a) = (r < 256) × (w < 256) × (v < 256) × (a < 256)
 
 abbrev pub FitsSaid : Said → Type 0
-FitsSaid Accepted = Unit {0}
-FitsSaid (Rejected f) = FitsFault f
+FitsSaid (Ok u) = Unit {0}
+FitsSaid (Err f) = FitsFault f
 
 abbrev pub FitsReply : Reply → Type 0
 FitsReply (Refused n p) = Fits 255 (AnswerRefused n p)

@@ -11,7 +11,7 @@ ghost use Rattle.log_check.specs.Word.{fault_number, fault_rest, said_word, chec
 
 use answer::Names;
 use entries::Counts;
-use log_order::{Fault, Said};
+use log_order::Fault;
 use sets::SLOTS;
 use tables::{COLUMNS, ROW_CELLS};
 
@@ -21,7 +21,7 @@ pub enum Reply {
     Refused(u8, u32),
     // the rule's number, 21 to 25, and whom it names
     Broken(u8, Names),
-    Listed(Said),
+    Listed(Result<(), Fault>),
 }
 
 // A whole sheet and its tables: the first broken rule of 21 to 25, or what is said of the list.
@@ -69,12 +69,12 @@ fn fault_word(f: Fault) -> u64
     }
 }
 
-fn said_word(s: Said) -> u64
+fn said_word(s: Result<(), Fault>) -> u64
     ensures { result ≡ said_word s }
 {
     match s {
-        Said::Accepted => answer::word(6, 0, 0),
-        Said::Rejected(f) => fault_word(f),
+        Ok(()) => answer::word(6, 0, 0),
+        Err(f) => fault_word(f),
     }
 }
 

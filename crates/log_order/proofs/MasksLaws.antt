@@ -40,9 +40,8 @@ use Rattle.orders.proofs.OrderLaws.{precedes_in}
 use Rattle.orders.proofs.PlaceLaws.{at_in_lem, either_way, distinct_apart, distinct_loop}
 use Rattle.log_order.specs.declared.Fault.{Fault}
 use Rattle.log_order.specs.declared.Fault.TheVariants.{WrongLength, BadNumber, TooEarly, Barred}
-use Rattle.log_order.specs.declared.Said.{Said}
-use Rattle.log_order.specs.declared.Said.TheVariants.{Accepted, Rejected}
-use Rattle.log_order.specs.Listed.{stood, ahead_in, ahead, bad_at, early_at, barred_at, longest, length_fault, number_fault, early_fault, bar_fault, list_fault, said_of}
+use Rattle.std.specs.Prelude.{Ok, Err}
+use Rattle.log_order.specs.Listed.{Said, stood, ahead_in, ahead, bad_at, early_at, barred_at, longest, length_fault, number_fault, early_fault, bar_fault, list_fault, said_of}
 use Rattle.log_order.specs.Trial.{trial_in}
 use Rattle.log_order.specs.steps.Masks.{Small, Stood, Ranked, Named, lacks, late_in, cross_in, crosses_in, bar_in}
 use Rattle.log_order.proofs.ListLaws.{stood_none, stood_next, ahead_none, ahead_next, ahead_precedes, precedes_ahead, bad_again, good_range, is_event, is_once, is_all}
@@ -171,17 +170,17 @@ module _ (m : ℕ) (t succ pred earlier q : List ℕ) (n : ℕ) (eq : List ℕ) 
 
   pub bar_yes : n ≤ row_room → (j : ℕ) → j < n → ((d : ℕ) → d < j → crosses_in t eq succ pred earlier q d ≡ false) → (r : Row) → r ≡ row_in q (j % row_room)
       → (v : ℕ) → (v ≡ first_of (cross_in t eq succ pred earlier (row_in q j)) slots) × (v < slots)
-      → Rejected (Barred r.reader r.writer v r.address) ≡ said_of (bar_in m t succ pred earlier q n)
+      → Err (Barred r.reader r.writer v r.address) ≡ said_of (bar_in m t succ pred earlier q n)
   unfolding said_of crosses_in
   bar_yes room j h before r p v e =
       let yes : crosses_in t eq succ pred earlier q j ≡ true = let f = e.0 in let g = e.1 in lt-ltb (first_of (cross_in t eq succ pred earlier (row_in q j)) slots) slots (omega arith) in
       let at = row_at_lem q j (omega arith) r p in
-      ap (λ (x : Row). Rejected (Barred x.reader x.writer v x.address)) at
-      ∙ ap (λ (x : ℕ). Rejected (Barred (row_in q j).reader (row_in q j).writer x (row_in q j).address)) e.0
+      ap (λ (x : Row). Err (Barred x.reader x.writer v x.address)) at
+      ∙ ap (λ (x : ℕ). Err (Barred (row_in q j).reader (row_in q j).writer x (row_in q j).address)) e.0
       ∙ sym (ap (λ (b : Bool). said_of (cond b (some (named eq j)) none)) (lt-ltb j n h))
       ∙ by_sets j (first_found (crosses_in t eq succ pred earlier q) n j h before yes)
 
-  pub bar_no : ((d : ℕ) → d < n → crosses_in t eq succ pred earlier q d ≡ false) → Accepted ≡ said_of (bar_in m t succ pred earlier q n)
+  pub bar_no : ((d : ℕ) → d < n → crosses_in t eq succ pred earlier q d ≡ false) → (Ok tt) ≡ said_of (bar_in m t succ pred earlier q n)
   unfolding said_of
   bar_no before =
       sym (ap (λ (b : Bool). said_of (cond b (some (named eq n)) none)) (le-ltb n n (omega arith)))
@@ -310,7 +309,7 @@ module _ {m : ℕ} {l : List ℕ} (named-once : Named m l) (earlier : List ℕ) 
     abbrev then : Option ℕ → Said
     then o = said_of (mapped (λ (k : ℕ). TooEarly k) o else bar_fault (trial_in m t succ pred q n) l)
 
-    pub early_said : (i : ℕ) → late ≡ Some i → Rejected (TooEarly i) ≡ said_of (early_fault (trial_in m t succ pred q n) l else bar_fault (trial_in m t succ pred q n) l)
+    pub early_said : (i : ℕ) → late ≡ Some i → Err (TooEarly i) ≡ said_of (early_fault (trial_in m t succ pred q n) l else bar_fault (trial_in m t succ pred q n) l)
     unfolding early_fault mapped ◌else◌ said_of
     early_said i h = sym (ap then (sym same_find ∙ found_at _ (length l) late is_late i h))
 
@@ -330,7 +329,7 @@ module _ (m : ℕ) (t succ pred q : List ℕ) (n : ℕ) (l : List ℕ) where
   abbrev behind : Option Fault → Said
   behind o = said_of (o else number_fault (trial_in m t succ pred q n) l else early_fault (trial_in m t succ pred q n) l else bar_fault (trial_in m t succ pred q n) l)
 
-  pub length_said : (length l ≡ m → ⊥) → Rejected (WrongLength (min (length l) longest)) ≡ said_of (list_fault (trial_in m t succ pred q n) l)
+  pub length_said : (length l ≡ m → ⊥) → Err (WrongLength (min (length l) longest)) ≡ said_of (list_fault (trial_in m t succ pred q n) l)
   unfolding list_fault length_fault ◌else◌ said_of
   length_said h = sym (ap (λ (b : Bool). behind (cond b none (some (WrongLength (min (length l) longest))))) (ne_eqb (length l) m h))
 
@@ -339,7 +338,7 @@ module _ (m : ℕ) (t succ pred q : List ℕ) (n : ℕ) (l : List ℕ) where
     unfolding list_fault length_fault ◌else◌
     right_length = sym (ap (λ (b : Bool). behind (cond b none (some (WrongLength (min (length l) longest))))) (eq-eqb (length l) m long))
 
-    pub number_said : (i : ℕ) → bad ≡ Some i → Rejected (BadNumber i) ≡ said_of (list_fault (trial_in m t succ pred q n) l)
+    pub number_said : (i : ℕ) → bad ≡ Some i → Err (BadNumber i) ≡ said_of (list_fault (trial_in m t succ pred q n) l)
     unfolding number_fault mapped ◌else◌ said_of
     number_said i h = sym (ap (λ (o : Option ℕ). rest (mapped (λ (k : ℕ). BadNumber k) o)) (found_at (bad_at m l) (length l) bad is i h)) ∙ right_length
 

@@ -7,7 +7,7 @@
 --     early_at c l i       the event at place i comes before one that happens before it
 --     barred_at c l (r, v) in the order V stands after W and before R of the row, which bars it
 --     list_fault c l       the first fault, in 02's order
---     said_of              accepted where there is none
+--     Said, said_of        what is said of a list: it is accepted where there is no fault
 -- Assumes nothing.
 use Rattle.std.specs.Prelude.{Bool, cond, List, ℕ, ◌-◌, ◌^◌, min, eqb, ltb, get_or, length}
 use Rattle.std.proofs.Math.Option.{Option, none, some}
@@ -15,8 +15,7 @@ use Rattle.basis.specs.Test.{◌and◌, ◌or◌, non, any, find, ◌else◌, ma
 use Rattle.format.specs.declared.Row.{Row}
 use Rattle.log_order.specs.declared.Fault.{Fault}
 use Rattle.log_order.specs.declared.Fault.TheVariants.{WrongLength, BadNumber, TooEarly, Barred}
-use Rattle.log_order.specs.declared.Said.{Said}
-use Rattle.log_order.specs.declared.Said.TheVariants.{Accepted, Rejected}
+use Rattle.std.specs.Prelude.{Result, Ok, Err, ⊤}
 
 -- ---- what stands where
 
@@ -79,6 +78,10 @@ bar_fault c l =
 unfoldable pub list_fault : Trial → List ℕ → Option Fault
 list_fault c l = length_fault c l else number_fault c l else early_fault c l else bar_fault c l
 
+-- what is said of a list: nothing against it, or its fault
+abbrev pub Said : Type 0
+Said = Result ⊤ Fault
+
 unfoldable pub said_of : Option Fault → Said
-said_of none = Accepted
-said_of (some f) = Rejected f
+said_of none = (Ok tt)
+said_of (some f) = Err f

@@ -5,7 +5,7 @@
 use Rattle.std.specs.Prelude.{ℕ, ◌<◌, ◌≡◌, ◌↔◌, List, T}
 use Rattle.orders.specs.Order.{Meets}
 use Rattle.log_order.specs.declared.Fault.{Fault}
-use Rattle.log_order.specs.declared.Said.TheVariants.{Accepted, Rejected}
+use Rattle.std.specs.Prelude.{Ok, Err}
 use Rattle.log_order.specs.Listed.{Trial, list_fault, said_of}
 use Rattle.log_order.specs.Trial.{problem_of}
 use Rattle.log_order.specs.Means.{Means}
@@ -16,8 +16,8 @@ pub record Strict (c : Trial) : Type 0 where
 
 -- 02 §5: "accept exactly when the list names every event once and the order meets the rules of 01"
 abbrev pub AcceptedIsMeets : Type 0
-AcceptedIsMeets = (c : Trial) → Strict c → (l : List ℕ) → (said_of (list_fault c l) ≡ Accepted) ↔ Meets (problem_of c) l
+AcceptedIsMeets = (c : Trial) → Strict c → (l : List ℕ) → (said_of (list_fault c l) ≡ (Ok tt)) ↔ Meets (problem_of c) l
 
 -- 02 §5: "Otherwise give the first fault"
 abbrev pub FaultMeans : Type 0
-FaultMeans = (c : Trial) → Strict c → (l : List ℕ) (f : Fault) → said_of (list_fault c l) ≡ Rejected f → Means c l f
+FaultMeans = (c : Trial) → Strict c → (l : List ℕ) (f : Fault) → said_of (list_fault c l) ≡ Err f → Means c l f

@@ -31,12 +31,6 @@ pub enum Fault {
     Barred(u8, u8, u8, u8),
 }
 
-#[derive(Clone, Copy)]
-pub enum Said {
-    Accepted,
-    Rejected(Fault),
-}
-
 // The first place with a number out of range or repeated.
 fn bad(m: usize, list: &[u8]) -> Option<usize>
     requires { m ≤ slots }
@@ -127,7 +121,7 @@ fn barred(
     earlier: &[u32; SLOTS],
     q: &[u8; ROW_CELLS],
     n: usize,
-) -> Said
+) -> Result<(), Fault>
     ensures { result ≡ said_of (bar_in (min m slots) t.now succ.now pred.now earlier.now q.now (min n row_room)) }
 {
     let mut eq = [0u32; ACCESSES];
@@ -135,10 +129,10 @@ fn barred(
     for j in 0..least(n, ROWS) {
         let r = rows::row(q, j);
         if let Some(v) = cross(t, &eq, succ, pred, earlier, r) {
-            return Said::Rejected(Fault::Barred(r.reader, r.writer, v as u8, r.address));
+            return Err(Fault::Barred(r.reader, r.writer, v as u8, r.address));
         }
     }
-    Said::Accepted
+    Ok(())
 }
 
 // What is said of a list that names each of m events once: too early, barred, or accepted.
@@ -150,14 +144,14 @@ fn ordered(
     q: &[u8; ROW_CELLS],
     n: usize,
     list: &[u8],
-) -> Said
+) -> Result<(), Fault>
     requires { Named m list.now }
     ensures { result ≡ said_of (early_fault (trial_in m t.now succ.now pred.now q.now (min n row_room)) list.now else bar_fault (trial_in m t.now succ.now pred.now q.now (min n row_room)) list.now) }
 {
     let mut earlier = [0u32; SLOTS];
     note(list, &mut earlier);
     if let Some(i) = early(sets::full(m), pred, list, &earlier) {
-        return Said::Rejected(Fault::TooEarly(i as u8));
+        return Err(Fault::TooEarly(i as u8));
     }
     barred(m, t, succ, pred, &earlier, q, n)
 }
@@ -171,16 +165,16 @@ pub fn check(
     q: &[u8; ROW_CELLS],
     n: usize,
     list: &[u8],
-) -> Said
+) -> Result<(), Fault>
     ensures { result ≡ said_of (list_fault (trial_in (min events slots) t.now succ.now pred.now q.now (min n row_room)) list.now) }
 {
     let m = least(events, SLOTS);
     let length = list.len();
     if length != m {
-        return Said::Rejected(Fault::WrongLength(least(length, LONGEST) as u32));
+        return Err(Fault::WrongLength(least(length, LONGEST) as u32));
     }
     if let Some(i) = bad(m, list) {
-        return Said::Rejected(Fault::BadNumber(i as u8));
+        return Err(Fault::BadNumber(i as u8));
     }
     ordered(m, t, succ, pred, q, n, list)
 }

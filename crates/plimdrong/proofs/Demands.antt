@@ -45,7 +45,7 @@ use Rattle.model.proofs.Editions.{by_record}
 use Rattle.plimdrong.specs.JudgedWord.{JudgedWord}
 use Rattle.plimdrong.specs.WrittenWord.{WrittenWord}
 use Rattle.log_check.specs.declared.Reply.TheVariants.{Listed}
-use Rattle.log_order.specs.declared.Said.TheVariants.{Accepted}
+use Rattle.std.specs.Prelude.{Ok}
 use Rattle.log_check.specs.Checked.{Checked}
 use Rattle.log_check.specs.Word.{checked_word, reply_in}
 use Rattle.log_check.proofs.Demands.{reported_accepted, accepted_consistent, replays}
@@ -150,7 +150,7 @@ reply_read s l r c = ap reply_in c.word ∙ fits-reply s l c.reply c.checked
 pub check_tells : CheckTells
 check_tells s l r c = subst (Checked s l) (sym (reply_read s l r c)) c.checked
 
-accepted_reply : (s l : List ℕ) → CheckedWord s l (word 6 0 0) → Checked s l (Listed Accepted)
+accepted_reply : (s l : List ℕ) → CheckedWord s l (word 6 0 0) → Checked s l (Listed (Ok tt))
 unfolding reply_in
 accepted_reply s l c = check_tells s l (word 6 0 0) c
 

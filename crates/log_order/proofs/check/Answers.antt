@@ -6,7 +6,7 @@ use lib.ListN.{length}
 use Rattle.sets.specs.Mask.{slots}
 use Rattle.cells.specs.First.{first_some}
 use Rattle.tables.specs.Tables.{row_room}
-use Rattle.log_order.specs.declared.Said.TheVariants.{Rejected}
+use Rattle.std.specs.Prelude.{Err}
 use Rattle.log_order.specs.declared.Fault.TheVariants.{WrongLength}
 use Rattle.log_order.specs.Listed.{bad_at}
 use Rattle.cells.proofs.FirstLaws.{some_is}
@@ -16,7 +16,7 @@ use Rattle.log_order.proofs.check.Goals as goal
 pub returns-then-length-m : goal.returns-then-length-m
 returns-then-length-m c =
     let z = c.least-m.ensures in
-    ap (λ (k : ℕ). Rejected (WrongLength k)) c.least.ensures ∙ length_said (min c.args.events slots) c.args.t.now c.args.succ.now c.args.pred.now c.args.q.now (min c.args.n row_room) c.args.list.now (λ e. c.if-length-m.true (e ∙ sym z))
+    ap (λ (k : ℕ). Err (WrongLength k)) c.least.ensures ∙ length_said (min c.args.events slots) c.args.t.now c.args.succ.now c.args.pred.now c.args.q.now (min c.args.n row_room) c.args.list.now (λ e. c.if-length-m.true (e ∙ sym z))
 
 pub overflow_cast-result-in-Some : goal.overflow_cast-result-in-Some
 overflow_cast-result-in-Some c =

@@ -2,7 +2,7 @@
 --     events_count, event_at_lem, event_past     how many events, event i, none behind the last
 --     events_capped                          no more than there are places
 --     any_events                             some event passes a test where the event at some of the places does
---     reads_at_at, reads_at_past, .. meets_at  what event i does
+--     reads_at_at, reads_at_past, .. agent_past  what event i does
 --     spaced_count, spaced_at, spaced_more, spaced_none     of things a gap apart
 --     rows_count, row_at_lem, pairs_count, pair_at_lem              the same of rows and pairs
 use mathlib.Core.Path.{◌≡◌, refl, sym, ap, ◌∙◌}
@@ -14,13 +14,12 @@ use native.Mathlib.Numerals.{add-one}
 use lib.ListN.{length, get_or, take}
 use Rattle.basis.specs.Test.{◌and◌, ◌or◌, any}
 use Rattle.basis.proofs.ListLaws.{take_capped, front_at, front_past, front_length}
-use Rattle.format.specs.declared.Shape.{Shape}
-use Rattle.format.specs.Shape.{reads, writes, marks, covers, overlap}
-use Rattle.format.specs.Event.{Event, nobody, reads_at, writes_at, reads_some, is_marker, meets}
+use Rattle.format.specs.Shape.{reads, writes, marks, covers}
+use Rattle.format.specs.Event.{Event, nobody, reads_at, writes_at, is_marker}
 use Rattle.format.specs.Field.{rest_at}
 use Rattle.format.specs.Execution.{event_no, blank_row, no_pair}
 use Rattle.format.specs.Layout.{agent_of, shape_of, access_of, row_gap, pair_gap}
-use Rattle.format.proofs.EventLaws.{reads_at_nobody, writes_at_nobody, is_marker_nobody, reads_at_one, writes_at_one, reads_some_one, is_marker_one, meets_one}
+use Rattle.format.proofs.EventLaws.{reads_at_nobody, writes_at_nobody, is_marker_nobody, reads_at_one, writes_at_one, is_marker_one}
 use Rattle.entries.specs.declared.Counts.{Counts}
 use Rattle.entries.specs.Entries.{spaced, event_at, row_at, pair_at, events_on, rows_on, pairs_on, events_in}
 
@@ -80,12 +79,6 @@ module _ (s : List ℕ) (edition n : ℕ) (at : List ℕ) (i : ℕ) where
 
   pub agent_past : n ≤ i → (event_no (events_on s edition n at) i).agent ≡ 0
   agent_past h = ap {B = ℕ} (λ (e : Event). e.agent) (event_past s edition n at i h)
-
-  pub meets_at : i < n → n ≤ length at → (a : Shape) → meets a (event_no (events_on s edition n at) i) ≡ overlap a (shape_of edition value)
-  meets_at h k a = ap (meets a) (event_at_lem s edition n at i h k) ∙ meets_one (agent_of value) (access_of edition value) a
-
-  pub reads_some_at : i < n → n ≤ length at → reads_some (event_no (events_on s edition n at) i) ≡ reads (shape_of edition value)
-  reads_some_at h k = ap reads_some (event_at_lem s edition n at i h k) ∙ reads_some_one (agent_of value) (access_of edition value)
 
 module _ {ℓ} {A : Type ℓ} (f : ℕ → A) (gap : ℕ) where
   pub spaced_count : (p n : ℕ) → length (spaced f gap p n) ≡ n

@@ -164,16 +164,7 @@ fn inits(s: &[u8], spot: Spot, at: &mut [u16], t: &mut [u8]) -> Spot
     if last != 1 {
         return spot;
     }
-    while (p as usize) < s.len() {
-        let plain = plain_first(s, p, spot::behind(h, n, n, p), at, high);
-        if !plain {
-            return Spot {
-                p,
-                last,
-                x: spot::behind(h, n, n, p),
-                t: k,
-            };
-        }
+    while (p as usize) < s.len() && plain_first(s, p, spot::behind(h, n, n, p), at, high) {
         let next = spot::next_at(s, p) as u16;
         high = end_of(s, p, high);
         let a = shape_here(s, h.edition, p);
@@ -204,25 +195,10 @@ fn events(s: &[u8], spot: Spot, at: &mut [u16], t: &mut [u8]) -> Spot
     if !here {
         return spot;
     }
-    while (p as usize) < s.len() {
-        let plain = faults::plain_event(s, p, spot::behind(h, inits, n, p));
-        if !plain {
-            return Spot {
-                p,
-                last,
-                x: spot::behind(h, inits, n, p),
-                t: k,
-            };
-        }
-        let whole = faults::tear_clean(s, h.edition, p);
-        if !whole {
-            return Spot {
-                p,
-                last,
-                x: spot::behind(h, inits, n, p),
-                t: k,
-            };
-        }
+    while (p as usize) < s.len()
+        && faults::plain_event(s, p, spot::behind(h, inits, n, p))
+        && faults::tear_clean(s, h.edition, p)
+    {
         let next = spot::next_at(s, p) as u16;
         let a = shape_plain(s, h.edition, p);
         k = take_event(s, h.edition, p, n, a, k, at, t);
@@ -262,16 +238,7 @@ fn rows(s: &[u8], spot: Spot, at: &[u16], t: &[u8; COLUMNS], q: &mut [u8]) -> Sp
     if last != 2 {
         return spot;
     }
-    while (p as usize) < s.len() {
-        let plain = take_row::take(s, p, with_rows(x, n, p), at, t, q);
-        if !plain {
-            return Spot {
-                p,
-                last,
-                x: with_rows(x, n, p),
-                t: k,
-            };
-        }
+    while (p as usize) < s.len() && take_row::take(s, p, with_rows(x, n, p), at, t, q) {
         n += 1;
         last = 3;
         p += 6;

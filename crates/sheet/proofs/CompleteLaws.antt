@@ -3,13 +3,13 @@
 --     place_found                   the place of the event that lacks a row
 --     read_whole                    a whole sheet that was read
 use Prim.Native.Nat.{ℕ, ◌<◌, min}
-use mathlib.Core.Path.{◌≡◌, refl, sym, ap, ◌∙◌}
+use mathlib.Core.Path.{◌≡◌, ap, ◌∙◌}
 use mathlib.Core.List.{List}
 use mathlib.Core.Option.{some}
 use native.Mathlib.Omega.{arith}
 use lib.ListN.{get_or}
 use lib.Seq.{get_or-take}
-use Rattle.parse.specs.Parse.{refused, whole, lowest_lacking, completed, place_of, finish, parse}
+use Rattle.parse.specs.Parse.{refused, whole, lowest_lacking, completed, place_of, finish}
 use Rattle.parse.proofs.LackLaws.{lacking_there}
 use Rattle.parse.proofs.ParseLaws.{finished_whole}
 use Rattle.parse.proofs.PromiseLaws.{promise}

@@ -28,7 +28,7 @@ const ROOM: usize = 4097;
 fn one_if_same(a: u8, b: u8) -> u32
     ensures { result ≡ cond (eqb a b) 1 0 }
 {
-    if a == b { 1 } else { 0 }
+    (a == b) as u32
 }
 
 // The fields before place p that have the tag of the field at p.

@@ -1,6 +1,5 @@
 -- `lacking::has_row` meets its contract. The invariant: the answer is the answer from row j on. Assumes nothing.
 use mathlib.Core.Path.{refl, sym, ap, ◌∙◌}
-use native.Mathlib.Omega.{arith}
 use Rattle.basis.proofs.LoopLaws.{any_at, any_none, any_found, any_more}
 use Rattle.format.specs.Execution.{blank_row}
 use Rattle.parse.specs.Parse.{is_row}

@@ -1,6 +1,5 @@
 -- `lacking::lacks_from` meets its contract. The invariant: the answer is the answer from byte i on. Assumes nothing.
 use mathlib.Core.Path.{refl, sym, ap, ◌∙◌}
-use native.Mathlib.Omega.{arith}
 use Rattle.basis.specs.Test.{from, non}
 use Rattle.basis.proofs.ListLaws.{from_length, from_at}
 use Rattle.basis.proofs.LoopLaws.{any_none, any_found, any_more}

@@ -1,9 +1,12 @@
--- `writer::one_if_same` meets its contract: by its one test. Assumes nothing.
-use borrow.Author.Tests.{eq-eqb, ne_eqb}
+-- `writer::one_if_same` meets its contract: a test as a number. Assumes nothing.
+use Rattle.std.proofs.Common.{◌≡◌, refl, Bool, true, false}
+use Rattle.std.specs.Prelude.{cond, eqb}
+use mir.Val.{bool_byte}
 use Rattle.writer.proofs.one_if_same.Goals as goal
 
-pub returns-then-a-b : goal.returns-then-a-b
-returns-then-a-b c = simp (eq-eqb _ _ c.if-a-b.true)
+one_of : (b : Bool) → bool_byte b ≡ cond b 1 0
+one_of true = refl
+one_of false = refl
 
-pub returns-else-a-b : goal.returns-else-a-b
-returns-else-a-b c = simp (ne_eqb _ _ c.if-a-b.false)
+pub returns : goal.returns
+returns c = one_of (eqb c.args.a c.args.b)

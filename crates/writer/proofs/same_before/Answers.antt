@@ -8,26 +8,8 @@ use Rattle.writer.proofs.same_before.Goals as goal
 pub loop-q-init : goal.loop-q-init
 loop-q-init c = counted_none c.args.s.now c.args.p
 
-pub overflow_cast-q : goal.overflow_cast-q
-overflow_cast-q c = omega arith
-
 pub overflow_add-i : goal.overflow_add-i
 overflow_add-i c = let e = c.one_if_same-i.ensures in let w = c.loop-q.invariant.few in let m = one_most (eqb c.byte.result c.byte-tag.result) in omega arith
-
-pub overflow_cast-q-in-loop-q : goal.overflow_cast-q-in-loop-q
-overflow_cast-q-in-loop-q c = omega arith
-
-pub overflow_cast-q-in-loop-q-2 : goal.overflow_cast-q-in-loop-q-2
-overflow_cast-q-in-loop-q-2 c = omega arith
-
-pub overflow_add-q : goal.overflow_add-q
-overflow_add-q c = omega arith
-
-pub overflow_add-q-in-loop-q : goal.overflow_add-q-in-loop-q
-overflow_add-q-in-loop-q c = omega arith
-
-pub loop-q-smaller : goal.loop-q-smaller
-loop-q-smaller c = omega arith
 
 pub loop-q-preserved : goal.loop-q-preserved
 loop-q-preserved c = let a = c.args in counted_turn a.s.now a.p c.loop-q.i c.loop-q.q c.one_if_same-i.result _ c.byte.result c.byte-tag.result c.length_at.result c.loop-q.invariant c.loop-q-test.true c.byte.ensures c.byte-tag.ensures c.one_if_same-i.ensures c.length_at.ensures refl

@@ -11,9 +11,6 @@ use Rattle.sheet.proofs.reader.fields.Goals as goal
 pub loop-p-init : goal.loop-p-init
 loop-p-init c = let h = c.fields-spot.ensures.fit c.requires in (h.stands.turn, h.stands.tallied, λ t₀ q₀ g. g)
 
-pub overflow_cast-p : goal.overflow_cast-p
-overflow_cast-p c = omega arith
-
 pub shape_of-q-in-Err : goal.shape_of-q-in-Err
 shape_of-q-in-Err c = (tabled_sizes _ _ _ _ _ _ _ (c.loop-p.invariant.2 c.args.t.now c.args.q.now (c.fields-spot.ensures.fit c.requires).tabled)).1
 

@@ -1,5 +1,5 @@
 -- `sheet::reader::finish` meets its contract, test by test. Assumes nothing.
-use Rattle.std.proofs.Common.{◌≡◌, sym, arith}
+use Rattle.std.proofs.Common.{◌≡◌, sym}
 use mathlib.Core.Option.{none, some}
 use Rattle.basis.specs.Test.{non}
 use Rattle.parse.specs.Parse.{lowest_lacking, completed, finish}

@@ -10,21 +10,20 @@
 use Prim.Native.Nat.{ℕ, ◌+◌, ◌*◌, ◌/◌, ◌%◌, ◌<◌, ◌≤◌, zero-le}
 use mathlib.Core.Path.{◌≡◌, refl, sym, ap₂, subst}
 use mathlib.Core.Bool.{true}
-use mathlib.Core.Logic.{◌⊎◌, inl, inr, ◌↔◌}
+use mathlib.Core.Logic.{inl, inr, ◌↔◌}
 use mathlib.Core.List.{List, [], ◌∷◌, Memᴰ}
 use native.Mathlib.Omega.{arith}
 use borrow.Author.Tests.{ltb-true, lt-ltb}
-use lib.Dec.{T, ltb}
+use lib.Dec.{T}
 use lib.ListN.{get_or}
-use Rattle.basis.specs.Test.{◌and◌, those, each, across, from}
+use Rattle.basis.specs.Test.{each, across, from}
 use Rattle.basis.proofs.BoolLaws.{and_elim, and_intro, true_T, T_true}
 use Rattle.basis.proofs.ListLaws.{each_elim, each_mem, from_mem, from_elim, across_left, across_right, across_mem}
 use Rattle.basis.proofs.FindLaws.{Sorted, Then, sorted_from, sorted_across}
 use Rattle.basis.proofs.ThoseLaws.{those_elim, those_intro, those_sorted, sorted_same}
-use Rattle.sets.specs.Mask.{slots, mem, Has}
+use Rattle.sets.specs.Mask.{slots, Has}
 use Rattle.sets.proofs.MaskLaws.{mem_lt}
 use Rattle.gather.specs.Writers.{bar_at}
-use Rattle.orders.specs.Problem.{Problem}
 use Rattle.orders.specs.Posed.{Triple, triples, posed}
 use Rattle.orders.specs.Step.{Below, Runs}
 use Rattle.orders.specs.Tables.{tabled}

@@ -2,7 +2,7 @@
 --     idle_facts      what the test says
 --     leaves_idle     an idle bar more leaves an order where there was one
 use Prim.Native.Nat.{ℕ, ◌<◌, ◌≤◌}
-use mathlib.Core.Path.{◌≡◌, refl, ap, sym, subst}
+use mathlib.Core.Path.{◌≡◌, refl, subst}
 use mathlib.Core.Bool.{true, ◌&&◌}
 use mathlib.Core.Logic.{◌⊎◌, inl, inr, ⊎_elim}
 use mathlib.Core.List.Memᴰ
@@ -13,7 +13,7 @@ use lib.ListN.{get_or}
 use Rattle.basis.specs.Test.{each}
 use Rattle.basis.proofs.BoolLaws.{bar_cases, and_parts}
 use Rattle.basis.proofs.ListLaws.{each_elim, each_mem}
-use Rattle.sets.specs.Mask.{mem, Has}
+use Rattle.sets.specs.Mask.{mem}
 use Rattle.orders.specs.Problem.{Problem}
 use Rattle.orders.specs.Posed.{Triple, posed}
 use Rattle.orders.specs.Spare.{Idles}

@@ -2,7 +2,7 @@
 --     clean_again                                      a cleared scratch fits as before, and clearing it again changes nothing
 --     keeps_unfit keeps_order keeps_small keeps_bars   how the code's answers are made
 --     keeps_unique                                     two conforming answers are equal, buffers too
-use Prim.Native.Nat.{ℕ, ◌+◌, ◌-◌, ◌*◌, ◌<◌, ◌≤◌}
+use Prim.Native.Nat.{ℕ, ◌-◌, ◌*◌, ◌<◌, ◌≤◌}
 use mathlib.Core.Path.{◌≡◌, refl, sym, ap, ap₂, subst, ◌∙◌}
 use mathlib.Core.Bool.{Bool, true, false}
 use mathlib.Core.List.{List, [], ◌++◌}

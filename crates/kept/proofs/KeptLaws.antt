@@ -10,14 +10,13 @@
 --     kept_nothing          nothing is kept exactly where no bars at all leave no order
 use Prim.Native.Nat.{ℕ, ◌≤◌}
 use mathlib.Core.Path.{◌≡◌, refl, sym, ap, subst, ◌∙◌}
-use mathlib.Core.Logic.{◌↔◌, inl, inr}
+use mathlib.Core.Logic.{◌↔◌}
 use mathlib.Core.Bool.{Bool, true, false, cond}
 use mathlib.Core.List.{List, [], ◌∷◌, ◌++◌, append_assoc, Memᴰ}
 use native.Mathlib.Omega.{arith}
-use lib.Dec.{T}
 use lib.ListN.{length}
 use Rattle.basis.specs.Test.{each}
-use Rattle.basis.proofs.BoolLaws.{true_T, false_T, T_true, T_false, by_bool}
+use Rattle.basis.proofs.BoolLaws.{true_T, T_true, T_false}
 use Rattle.basis.proofs.ListLaws.{each_append}
 use Rattle.basis.proofs.FindLaws.{Sorted}
 use Rattle.kept.specs.Kept.{kept_of, kept, Walk, end, drop, keep, KeptOf, TellsNone, Sub, none, skip, both, Fewer}

@@ -8,12 +8,12 @@
 --     bar_facts bar_of              what `is_bar` tests
 --     skip_reader skip_writer skip_one     where to look next
 --     Passed, passed_none passed_more next_here next_end     the first bar from a number on
---     AtBar, Counting, count-..     how many bars there are below one
+--     Counting, count-..            how many bars there are below one
 --     Writing, writing-..           their bytes, in front of a buffer
 use Prim.Native.Nat.{ℕ, zero, suc, ◌+◌, ◌-◌, ◌*◌, ◌/◌, ◌%◌, ◌<◌, ◌≤◌, zero-le}
 use mathlib.Core.Path.{◌≡◌, refl, sym, ap, ap₂, subst, ◌∙◌}
 use mathlib.Core.Bool.{Bool, true, false, ◌&&◌, and-false}
-use mathlib.Core.Logic.{◌⊎◌, inl, inr, ⊎_elim}
+use mathlib.Core.Logic.{inl, inr}
 use mathlib.Core.List.{List, [], ◌∷◌, ◌++◌, append-nil}
 use native.Mathlib.Nat.{add-zero, zero-add, suc-add}
 use native.Mathlib.Numerals.{add-one}
@@ -229,8 +229,10 @@ module _ {m : ℕ} {bars : List ℕ} {from i : ℕ} (p : Passed m bars from i) w
   pub next_here : is_bar m bars i ≡ true → NextBar m bars from i
   next_here h = record { low = p.low; high = p.high; none = p.none; is = λ l. h }
 
-  pub next_end : numbers ≤ i → NextBar m bars from i
-  next_end h = record { low = p.low; high = p.high; none = p.none; is = λ l. absurd (omega arith) }
+  pub next_end : numbers ≤ i → NextBar m bars from numbers
+  next_end h =
+      let e : i ≡ numbers = let z = p.high in omega arith in
+      subst (NextBar m bars from) e (record { low = p.low; high = p.high; none = p.none; is = λ l. absurd (omega arith) })
 
 module _ (m : ℕ) (bars : List ℕ) where
   pub bars_picks : length (picks (is_bar m bars) 0 numbers) ≡ length (bar_numbers m bars)
@@ -309,67 +311,61 @@ written_end m bars w = w.bytes
 -- ---- loops from bar to bar
 
 -- i is a bar, or the end
-pub record AtBar (m : ℕ) (bars : List ℕ) (i : ℕ) : Type 0 where
-  pub high : i ≤ numbers
-  pub is : i < numbers → is_bar m bars i ≡ true
-
-pub at_bar : {m : ℕ} {bars : List ℕ} {from i : ℕ} → NextBar m bars from i → AtBar m bars i
-at_bar n = record { high = n.high; is = n.is }
-
 -- n bars below i
 pub record Counting (m : ℕ) (bars : List ℕ) (n i : ℕ) : Type 0 where
-  pub stands : AtBar m bars i
+  pub high : i ≤ numbers
   pub count : n ≡ length (picks (is_bar m bars) 0 i)
 
 -- the bars below i are written
 pub record Writing (m : ℕ) (bars out₀ : List ℕ) (at : ℕ) (out : List ℕ) (i : ℕ) : Type 0 where
-  pub stands : AtBar m bars i
+  pub high : i ≤ numbers
   pub written : Written (picks (is_bar m bars) 0 i) out₀ at out
 
 module _ {m : ℕ} {bars : List ℕ} where
-  first_none : {j : ℕ} → NextBar m bars 0 j → picks (is_bar m bars) 0 j ≡ []
-  first_none {j} n = picks_gap (is_bar m bars) 0 j n.low n.none ∙ picks_none (is_bar m bars) 0
+  skipped : (i : ℕ) {j : ℕ} → NextBar m bars i j → picks (is_bar m bars) 0 j ≡ picks (is_bar m bars) 0 i
+  skipped i {j} n = picks_gap (is_bar m bars) i j n.low n.none
 
-  on_next : (i : ℕ) {j : ℕ} → is_bar m bars i ≡ true → NextBar m bars (i + 1) j → picks (is_bar m bars) 0 j ≡ picks (is_bar m bars) 0 i ++ (i ∷ [])
-  on_next i {j} h n = picks_gap (is_bar m bars) (i + 1) j n.low n.none ∙ picks_last (is_bar m bars) i h
+  pub count_start : Counting m bars 0 0
+  count_start = record { high = zero-le; count = sym (ap length (picks_none (is_bar m bars) 0)) }
 
-  pub count_first : {j : ℕ} → NextBar m bars 0 j → Counting m bars 0 j
-  count_first n = record { stands = at_bar n; count = sym (ap length (first_none n)) }
+  pub count_end : {n : ℕ} → Counting m bars n numbers → n ≡ length (bar_numbers m bars)
+  count_end c = c.count ∙ bars_picks m bars
 
   module _ {n i : ℕ} (c : Counting m bars n i) where
-    pub count_more : i < numbers → {j : ℕ} → NextBar m bars (i + 1) j → Counting m bars (n + 1) j
-    count_more l {j} x =
+    -- on to the next bar
+    pub count_skip : {j : ℕ} → NextBar m bars i j → Counting m bars n j
+    count_skip x = record { high = x.high; count = c.count ∙ sym (ap length (skipped i x)) }
+
+    pub count_more : i < numbers → is_bar m bars i ≡ true → Counting m bars (n + 1) (i + 1)
+    count_more l h =
         record {
-          stands = at_bar x;
-          count = ap (λ (y : ℕ). y + 1) c.count ∙ sym (length-append (picks (is_bar m bars) 0 i) (i ∷ [])) ∙ sym (ap length (on_next i (c.stands.is l) x));
+          high = omega arith;
+          count = ap (λ (y : ℕ). y + 1) c.count ∙ sym (length-append (picks (is_bar m bars) 0 i) (i ∷ [])) ∙ sym (ap length (picks_last (is_bar m bars) i h));
         }
 
     pub count_few : n ≤ i
     count_few = let a = c.count in let b = picks_few (is_bar m bars) i 0 in omega arith
 
-    pub count_end : numbers ≤ i → n ≡ length (bar_numbers m bars)
-    count_end l =
-        let a = c.stands.high in let e : i ≡ numbers = omega arith in c.count ∙ ap (λ (y : ℕ). length (picks (is_bar m bars) 0 y)) e ∙ bars_picks m bars
+  pub writing_start : (out : List ℕ) → Writing m bars out 0 out 0
+  writing_start out = record { high = zero-le; written = rw (picks_none (is_bar m bars) 0) (written_none out) }
 
-  pub writing_first : (out : List ℕ) {j : ℕ} → NextBar m bars 0 j → Writing m bars out 0 out j
-  writing_first out n = record { stands = at_bar n; written = rw (first_none n) (written_none out) }
+  pub writing_end : {out₀ out : List ℕ} {at : ℕ} → Writing m bars out₀ at out numbers → out ≡ bytes_of (each triple_of (bar_numbers m bars)) ++ drop (length (bar_numbers m bars) * 3) out₀
+  writing_end w = written_end m bars w.written
 
   module _ {out₀ : List ℕ} {at : ℕ} {out : List ℕ} {i : ℕ} (w : Writing m bars out₀ at out i) where
-    room_for : i < numbers → length (bar_numbers m bars) * 3 ≤ length out₀ → (length (picks (is_bar m bars) 0 i) + 1) * 3 ≤ length out₀
-    room_for l r = let a = picks_room (is_bar m bars) i numbers l (w.stands.is l) in let b = bars_picks m bars in omega arith
+    -- on to the next bar
+    pub writing_skip : {j : ℕ} → NextBar m bars i j → Writing m bars out₀ at out j
+    writing_skip x = record { high = x.high; written = rw (skipped i x) w.written }
 
-    pub writing_room : i < numbers → length (bar_numbers m bars) * 3 ≤ length out₀ → at + 3 ≤ length out
-    writing_room l r = let a = room_for l r in let b = w.written.place in let c = w.written.size in omega arith
+    room_for : i < numbers → is_bar m bars i ≡ true → length (bar_numbers m bars) * 3 ≤ length out₀ → (length (picks (is_bar m bars) 0 i) + 1) * 3 ≤ length out₀
+    room_for l h r = let a = picks_room (is_bar m bars) i numbers l h in let b = bars_picks m bars in omega arith
+
+    pub writing_room : i < numbers → is_bar m bars i ≡ true → length (bar_numbers m bars) * 3 ≤ length out₀ → at + 3 ≤ length out
+    writing_room l h r = let a = room_for l h r in let b = w.written.place in let c = w.written.size in omega arith
 
     pub writing_low : at ≤ i * 3
     writing_low = let a = w.written.place in let b = picks_few (is_bar m bars) i 0 in omega arith
 
-    pub writing_more : i < numbers → length (bar_numbers m bars) * 3 ≤ length out₀ → {out' : List ℕ} → BarStored out at i out' → {j : ℕ} → NextBar m bars (i + 1) j
-        → Writing m bars out₀ (at + 3) out' j
-    writing_more l r s x = record { stands = at_bar x; written = rw (on_next i (w.stands.is l) x) (written_more w.written (room_for l r) s) }
-
-    pub writing_end : numbers ≤ i → out ≡ bytes_of (each triple_of (bar_numbers m bars)) ++ drop (length (bar_numbers m bars) * 3) out₀
-    writing_end l =
-        let a = w.stands.high in
-        let e : i ≡ numbers = omega arith in
-        written_end m bars (subst (λ (y : ℕ). Written (picks (is_bar m bars) 0 y) out₀ at out) e w.written)
+    pub writing_more : i < numbers → is_bar m bars i ≡ true → length (bar_numbers m bars) * 3 ≤ length out₀ → {out' : List ℕ} → BarStored out at i out'
+        → Writing m bars out₀ (at + 3) out' (i + 1)
+    writing_more l h r s = record { high = omega arith; written = rw (picks_last (is_bar m bars) i h) (written_more w.written (room_for l h r) s) }

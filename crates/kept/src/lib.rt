@@ -8,6 +8,7 @@
 ghost use Rattle.std.specs.Prelude.{◌≡◌, true, ◌++◌, ◌+◌, ◌-◌, ◌*◌, ◌<◌, ◌≤◌, length, set, drop};
 ghost use Rattle.basis.specs.Test.{each};
 ghost use Rattle.marks.specs.Table.{bytes_for, cleared};
+ghost use Rattle.placing.specs.Placing.{FoundBelow};
 ghost use Rattle.orders.specs.Step.{Below, Dead};
 ghost use Rattle.orders.specs.Tables.{tabled};
 ghost use Rattle.orders.specs.Answer.{Fits};
@@ -74,19 +75,19 @@ fn skip(m: usize, i: usize) -> usize
     i + 1
 }
 
-// The first bar from this number on; as many as there are numbers where there is none.
-fn next(m: usize, bars: &[u32; PAIRS], from: usize) -> usize
+// The first bar from this number on; none if there is no such bar.
+fn next(m: usize, bars: &[u32; PAIRS], from: usize) -> Option<usize>
     requires { from ≤ numbers }
-    ensures { NextBar m bars.now from result }
+    ensures { FoundBelow numbers (NextBar m bars.now from) result }
 {
     let mut i = from;
     while i < NUMBERS {
         if is_bar(m, bars, i) {
-            return i;
+            return Some(i);
         }
         i = skip(m, i);
     }
-    i
+    None
 }
 
 // A copy of a table.
@@ -133,10 +134,10 @@ fn thin(k: usize, m: usize, before: &[u32; SLOTS], bars: &mut [u32; PAIRS], scra
     requires { Fits k m (length scratch.old) × Wide bars.old × (scratch.old ≡ cleared (bytes_for (m - k)) scratch.old) × Dead (tabled m before.now bars.old) (Below k) }
     ensures { Thinned k m before.now bars.old bars.new × (scratch.new ≡ scratch.old) }
 {
-    let mut i = next(m, bars, 0);
-    while i < NUMBERS {
+    let mut from: usize = 0;
+    while let Some(i) = next(m, bars, from) {
         turn(k, m, before, bars, scratch, i);
-        i = next(m, bars, i + 1);
+        from = i + 1;
     }
 }
 
@@ -147,10 +148,10 @@ fn count(m: usize, bars: &[u32; PAIRS]) -> usize
     ensures { result ≡ length (bar_numbers m bars.now) }
 {
     let mut n: usize = 0;
-    let mut i = next(m, bars, 0);
-    while i < NUMBERS {
+    let mut from: usize = 0;
+    while let Some(i) = next(m, bars, from) {
         n += 1;
-        i = next(m, bars, i + 1);
+        from = i + 1;
     }
     n
 }
@@ -171,11 +172,11 @@ fn write(m: usize, bars: &[u32; PAIRS], out: &mut [u8])
     ensures { out.new ≡ bytes_of (each triple_of (bar_numbers m bars.now)) ++ drop (length (bar_numbers m bars.now) * 3) out.old }
 {
     let mut at: usize = 0;
-    let mut i = next(m, bars, 0);
-    while i < NUMBERS {
+    let mut from: usize = 0;
+    while let Some(i) = next(m, bars, from) {
         store(out, at, i);
         at += 3;
-        i = next(m, bars, i + 1);
+        from = i + 1;
     }
 }
 

@@ -5,8 +5,6 @@
 ghost use Rattle.orders.specs.Answer.{Told, Answered};
 ghost use Rattle.orders_c.specs.Exported.{Exported};
 
-use reach::Count;
-
 #[unsafe(no_mangle)]
 pub extern "C" fn orders_first(
     inits: usize,
@@ -47,8 +45,5 @@ pub extern "C" fn orders_count_sets(
     ensures { Exported inits events before.now bars.now scratch.old limit result scratch.new }
 {
     let answer = reach::count_sets(inits, events, before, bars, scratch, limit);
-    match answer {
-        Count::All(n) => n,
-        Count::Over => 18446744073709551615,
-    }
+    answer.unwrap_or(usize::MAX)
 }

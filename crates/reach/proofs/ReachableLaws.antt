@@ -14,8 +14,7 @@ use lib.ListN.{length}
 use Rattle.basis.specs.Test.{from}
 use Rattle.sets.specs.Mask.{full, above}
 use Rattle.sets.proofs.MaskLaws.{mem_full, insert_lt, insert_old, above_lt, above_inj}
-use Rattle.reach.specs.declared.Count.{Count}
-use Rattle.reach.specs.declared.Count.TheVariants.{All, Over}
+use Rattle.std.specs.Prelude.{Option, Some, None}
 use Rattle.orders.specs.Problem.{Problem}
 use Rattle.orders.specs.Order.{In, Distinct}
 use Rattle.reach.specs.Reachable.{Reached, start, place, Counted, Exceeds, CountIs}
@@ -48,11 +47,11 @@ exceeds_over x f =
     let o = x.over in
     omega arith
 
-pub count_unique : (P : Problem) (s₀ limit : ℕ) (p q : Count) → CountIs P s₀ limit p → CountIs P s₀ limit q → p ≡ q
-count_unique P s₀ limit (All b) (All c) f g = ap All (counted_unique f.0 g.0)
-count_unique P s₀ limit (All b) Over f g = absurd (let h = exceeds_over g f.0 in let l = f.1 in omega arith)
-count_unique P s₀ limit Over (All c) f g = absurd (let h = exceeds_over f g.0 in let l = g.1 in omega arith)
-count_unique P s₀ limit Over Over f g = refl
+pub count_unique : (P : Problem) (s₀ limit : ℕ) (p q : Option ℕ) → CountIs P s₀ limit p → CountIs P s₀ limit q → p ≡ q
+count_unique P s₀ limit (Some b) (Some c) f g = ap Some (counted_unique f.0 g.0)
+count_unique P s₀ limit (Some b) None f g = absurd (let h = exceeds_over g f.0 in let l = f.1 in omega arith)
+count_unique P s₀ limit None (Some c) f g = absurd (let h = exceeds_over f g.0 in let l = g.1 in omega arith)
+count_unique P s₀ limit None None f g = refl
 
 -- ---- at most 2 ^ n: a reachable set has the inits, and is known by the others
 

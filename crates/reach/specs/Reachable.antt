@@ -5,11 +5,9 @@
 --     Exceeds P s₀ limit      there are more than `limit` of them
 --     CountIs P s₀ limit r    the answer to a count with a limit
 --     Tallied ..              the answer of `count_sets`
-use Rattle.std.specs.Prelude.{ℕ, ◌-◌, ◌<◌, ◌≤◌, ◌≡◌, List, length}
+use Rattle.std.specs.Prelude.{Option, Some, None, ℕ, ◌-◌, ◌<◌, ◌≤◌, ◌≡◌, List, length}
 use Rattle.sets.specs.Mask.{Has, insert, full}
 use Rattle.marks.specs.Table.{bytes_for, cleared}
-use Rattle.reach.specs.declared.Count.{Count}
-use Rattle.reach.specs.declared.Count.TheVariants.{All, Over}
 use Rattle.orders.specs.Problem.{Problem}
 use Rattle.orders.specs.Order.{In, Distinct}
 use Rattle.orders.specs.Step.{Ready}
@@ -36,11 +34,11 @@ pub record Exceeds (P : Problem) (s₀ limit : ℕ) : Type 0 where
   pub over : limit < length sets
 
 -- 02 §9: unfinished "exactly when .. the number of reachable sets .. is over the limit"
-abbrev pub CountIs : Problem → ℕ → ℕ → Count → Type 0
-CountIs P s₀ limit (All c) = Counted P s₀ c × (c ≤ limit)
-CountIs P s₀ limit Over = Exceeds P s₀ limit
+abbrev pub CountIs : Problem → ℕ → ℕ → Option ℕ → Type 0
+CountIs P s₀ limit (Some c) = Counted P s₀ c × (c ≤ limit)
+CountIs P s₀ limit None = Exceeds P s₀ limit
 
--- what does not fit is answered All(0), which no count is, with nothing changed
-pub record Tallied (k m : ℕ) (before bars scratch : List ℕ) (limit : ℕ) (r : Count) (scratch' : List ℕ) : Type 0 where
+-- what does not fit is answered Some(0), which no count is, with nothing changed
+pub record Tallied (k m : ℕ) (before bars scratch : List ℕ) (limit : ℕ) (r : Option ℕ) (scratch' : List ℕ) : Type 0 where
   pub fit : Fits k m (length scratch) → CountIs (tabled m before bars) (full k) limit r × (scratch' ≡ cleared (bytes_for (m - k)) scratch)
-  pub unfit : (Fits k m (length scratch) → ⊥) → (r ≡ All 0) × (scratch' ≡ scratch)
+  pub unfit : (Fits k m (length scratch) → ⊥) → (r ≡ Some 0) × (scratch' ≡ scratch)

@@ -10,14 +10,8 @@ ghost use Rattle.reach.specs.Counting.{Counting};
 use gather::PAIRS;
 use sets::SLOTS;
 
-// The number of the sets that can be built from that of the inits, or that it is over a limit.
-#[derive(Clone, Copy)]
-pub enum Count {
-    All(usize),
-    Over,
-}
-
-// Walks through all sets that can be built from that of the inits, until all are entered or more than the limit are found.
+// Walks through all sets that can be built from that of the inits, until all are entered or more than the limit are found:
+// how many they are, or none over the limit.
 fn tally(
     k: usize,
     m: usize,
@@ -27,12 +21,12 @@ fn tally(
     table: &mut [u8],
     path: &mut [u8],
     limit: usize,
-) -> Count
+) -> Option<usize>
     requires { Starting (tabled m before.now bars.now) k table.old path.old × Gathered m bars.now writers.now }
     ensures { Counting (tabled m before.now bars.now) k table.old limit result table.new }
 {
     if limit == 0 {
-        return Count::Over;
+        return None;
     }
     let mut s = sets::full(k);
     let mut depth: usize = 0;
@@ -42,7 +36,7 @@ fn tally(
         match placing::next(k, m, before, bars, writers, table, s, from) {
             Some(e) => {
                 if limit <= n {
-                    return Count::Over;
+                    return None;
                 }
                 s = placing::enter(k, s, e, table, path, depth);
                 depth += 1;
@@ -51,7 +45,7 @@ fn tally(
             }
             None => {
                 if depth == 0 {
-                    return Count::All(n);
+                    return Some(n);
                 }
                 depth -= 1;
                 let x = path[depth] as usize;
@@ -62,8 +56,8 @@ fn tally(
     }
 }
 
-// The number of the sets that can be built from that of the inits, or that it is over the limit. Where the numbers or the scratch do not fit,
-// All(0), and nothing is changed.
+// The number of the sets that can be built from that of the inits, or none where it is over the limit. Where the numbers or the scratch do not fit,
+// Some(0), which no count is, and nothing is changed.
 pub fn count_sets(
     inits: usize,
     events: usize,
@@ -71,11 +65,11 @@ pub fn count_sets(
     bars: &[u32; PAIRS],
     scratch: &mut [u8],
     limit: usize,
-) -> Count
+) -> Option<usize>
     ensures { Tallied inits events before.now bars.now scratch.old limit result scratch.new }
 {
     if !orders::fits(inits, events, scratch.len()) {
-        return Count::All(0);
+        return Some(0);
     }
     let mut writers = [0u32; SLOTS];
     gather::gather(events, bars, &mut writers);

@@ -1,5 +1,4 @@
 -- `kept::next` meets its contract: from the start on below i there is no bar. The measure is what is left. Assumes nothing.
-use Prim.Native.Nat.{◌-◌}
 use mathlib.Core.Path.{sym, ◌∙◌}
 use native.Mathlib.Omega.{arith}
 use Rattle.kept.proofs.NumbersLaws.{passed_none, passed_more, next_here, next_end}
@@ -12,7 +11,7 @@ pub is_bar-requires : goal.is_bar-requires
 is_bar-requires c = tt
 
 pub returns-then-is_bar : goal.returns-then-is_bar
-returns-then-is_bar c = next_here c.loop-i.invariant (sym c.is_bar.ensures ∙ c.if-is_bar.true)
+returns-then-is_bar c = (omega arith, next_here c.loop-i.invariant (sym c.is_bar.ensures ∙ c.if-is_bar.true))
 
 pub skip-i-requires : goal.skip-i-requires
 skip-i-requires c = omega arith

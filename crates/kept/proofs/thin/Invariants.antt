@@ -1,13 +1,12 @@
--- `kept::thin` meets its contract: up to the bar i the walk on the table is the walk on the list. The measure is what is left. Assumes nothing.
-use Prim.Native.Nat.{◌-◌}
+-- `kept::thin` meets its contract: below `from` the walk on the table is the walk on the list. The measure is what is left. Assumes nothing.
+use Prim.Native.Nat.{◌-◌, ◌≤◌}
 use mathlib.Core.Path.{◌≡◌}
 use Rattle.kept.specs.steps.Numbers.{numbers}
-use Rattle.kept.proofs.NumbersLaws.{AtBar}
 use Rattle.kept.proofs.ThinLaws.{Standing}
 use Rattle.kept.proofs.thin.Given as goal
 
 abbrev pub invariant-loop-i : goal.invariant-loop-i
-invariant-loop-i l = AtBar l.m l.bars l.i × Standing l.k l.m l.before l.initial.bars l.bars l.i × (l.scratch ≡ l.initial.scratch)
+invariant-loop-i l = (l.from ≤ numbers) × Standing l.k l.m l.before l.initial.bars l.bars l.from × (l.scratch ≡ l.initial.scratch)
 
 abbrev pub decreases-loop-i : goal.decreases-loop-i
-decreases-loop-i l = numbers - l.i
+decreases-loop-i l = numbers - l.from

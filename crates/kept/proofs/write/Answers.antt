@@ -1,35 +1,30 @@
--- `kept::write` meets its contract: the bars below i are written. The measure is what is left. Assumes nothing.
-use Prim.Native.Nat.{◌-◌}
+-- `kept::write` meets its contract: the bars below `from` are written. The measure is what is left. Assumes nothing.
 use native.Mathlib.Omega.{arith}
-use Rattle.kept.proofs.NumbersLaws.{writing_first, writing_room, writing_low, writing_more, writing_end}
+use Rattle.kept.proofs.NumbersLaws.{writing_start, writing_skip, writing_room, writing_low, writing_more, writing_end}
 use Rattle.kept.proofs.write.Goals as goal
 
-pub next-i-requires : goal.next-i-requires
-next-i-requires c = omega arith
-
 pub loop-i-init : goal.loop-i-init
-loop-i-init c = writing_first c.args.out.now c.next-i.ensures
+loop-i-init c = writing_start c.args.out.now
+
+pub next-requires : goal.next-requires
+next-requires c = c.loop-i.invariant.high
 
 pub store-requires : goal.store-requires
-store-requires c = writing_room c.loop-i.invariant (omega arith) c.requires
+store-requires c = let n = c.in-Some.ensures.1 in writing_room (writing_skip c.loop-i.invariant n) c.in-Some.ensures.0 (n.is c.in-Some.ensures.0) c.requires
 
 pub overflow_add-at : goal.overflow_add-at
-overflow_add-at c = let a = writing_low c.loop-i.invariant in let b = c.loop-i.invariant.stands.high in omega arith
-
-pub overflow_add-i : goal.overflow_add-i
-overflow_add-i c = omega arith
-
-pub next-i-requires-in-loop-i : goal.next-i-requires-in-loop-i
-next-i-requires-in-loop-i c = omega arith
+overflow_add-at c = let a = writing_low c.loop-i.invariant in let b = c.loop-i.invariant.high in omega arith
 
 pub loop-i-smaller : goal.loop-i-smaller
-loop-i-smaller c = let a = c.next-i-in-loop-i.ensures.low in let b = c.next-i-in-loop-i.ensures.high in omega arith
+loop-i-smaller c = let a = c.in-Some.ensures.0 in let b = c.in-Some.ensures.1.low in omega arith
 
 pub loop-i-preserved : goal.loop-i-preserved
-loop-i-preserved c = writing_more c.loop-i.invariant (omega arith) c.requires c.store.ensures c.next-i-in-loop-i.ensures
+loop-i-preserved c =
+    let n = c.in-Some.ensures.1 in
+    writing_more (writing_skip c.loop-i.invariant n) c.in-Some.ensures.0 (n.is c.in-Some.ensures.0) c.requires c.store.ensures
 
 pub shape_of-out : goal.shape_of-out
 shape_of-out c = c.loop-i.invariant.written.size
 
 pub returns : goal.returns
-returns c = writing_end c.loop-i.invariant (omega arith)
+returns c = writing_end (writing_skip c.loop-i.invariant c.in_default.ensures)

@@ -55,11 +55,10 @@ fn note(list: &[u8], earlier: &mut [u32])
     requires { Small list.now × (length earlier.old ≡ slots) × Ranked list.now 0 earlier.old }
     ensures { Ranked list.now (length list.now) earlier.new }
 {
-    let n = list.len();
     let mut s = 0;
-    for j in 0..n {
-        let x = list[j] as usize;
-        earlier[x] = earlier[x] | s;
+    for number in list {
+        let x = *number as usize;
+        earlier[x] |= s;
         s = sets::with(s, x);
     }
 }

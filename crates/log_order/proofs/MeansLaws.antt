@@ -4,7 +4,7 @@
 --     fault_means      the fault that `list_fault` names
 use mathlib.Core.Path.{◌≡◌, refl, sym, ap, ◌∙◌, subst}
 use mathlib.Core.Bool.{Bool, true, false, cond}
-use mathlib.Core.Logic.{◌⊎◌, inl, inr, ⊎_elim}
+use mathlib.Core.Logic.{inl, inr, ⊎_elim}
 use mathlib.Core.List.{List, [], ◌∷◌}
 use mathlib.Core.Option.{Option, none, some, none-ne-some}
 use Prim.Native.Nat.{ℕ, zero, suc, ◌<◌, min}
@@ -12,7 +12,7 @@ use native.Mathlib.Omega.{arith}
 use borrow.Author.Tests.{eq-eqb, ltb-true, ltb-false}
 use lib.Dec.{T, eqb, ltb}
 use lib.ListN.{length, get_or}
-use Rattle.basis.specs.Test.{◌or◌, non, find, ◌else◌, across, from}
+use Rattle.basis.specs.Test.{non, find, ◌else◌, across, from}
 use Rattle.basis.proofs.BoolLaws.{by_bool, not_both_ways, T_false, or_either, non_true}
 use Rattle.basis.proofs.ListLaws.{from_mem}
 use Rattle.basis.proofs.FindLaws.{find_none, else_cases, mapped_some, same_some, across_found, across_more}

@@ -55,11 +55,10 @@ fn note(list: &[u8], earlier: &mut [u32])
     requires { Small list.now × (length earlier.old ≡ slots) × Ranked list.now 0 earlier.old }
     ensures { Ranked list.now (length list.now) earlier.new }
 {
-    let n = list.len();
     let mut s = 0;
-    for j in 0..n {
-        let x = list[j] as usize;
-        earlier[x] = earlier[x] | s;
+    for number in list {
+        let x = *number as usize;
+        earlier[x] |= s;
         s = sets::with(s, x);
     }
 }
@@ -75,13 +74,10 @@ fn lacks(a: u32, b: u32) -> bool
 fn early(all: u32, pred: &[u32; SLOTS], list: &[u8], earlier: &[u32; SLOTS]) -> Option<usize>
     ensures { result ≡ first_some (late_in all pred.now earlier.now list.now) (length list.now) }
 {
-    for j in 0..list.len() {
-        let x = list[j] as usize % SLOTS;
-        if lacks(pred[x] & all, sets::with(earlier[x], x)) {
-            return Some(j);
-        }
-    }
-    None
+    list.iter().position(|number| {
+        let x = *number as usize % SLOTS;
+        lacks(pred[x] & all, sets::with(earlier[x], x))
+    })
 }
 
 // The least member of a set that w stands before.

@@ -39,6 +39,7 @@ fn cyclic(k: usize, m: usize, f: &[u32]) -> bool
     requires { (m ≤ slots) × (slots ≤ length f.now) }
     ensures { Cyclic k m f.now result }
 {
+    // The event is the place of its mask: an iterator over the masks would have to count the events again.
     for v in k..m {
         if sets::has(f[v], v) {
             return true;
@@ -251,6 +252,7 @@ fn press_list(
     requires { Forced (tabled m before.now (listed_bars between.now readers.now writers.now n)) k before.now f.old × (k ≤ m) × (m ≤ slots) × (n ≤ list_room) }
     ensures { Forced (tabled m before.now (listed_bars between.now readers.now writers.now n)) k before.now f.new }
 {
+    // Three arrays side by side, as C lends them: an iterator over all three is no plainer.
     for i in 0..n {
         let reader = readers[i] as usize % SLOTS;
         let writer = writers[i] as usize % SLOTS;
@@ -258,7 +260,7 @@ fn press_list(
     }
 }
 
-// As `press_on`. Mostly an event waits for itself before anything is closed.
+// As `press_on`, but for the order of its steps: mostly an event waits for itself before anything is closed, so the closing stands between two tests here.
 fn press_list_on(
     k: usize,
     m: usize,

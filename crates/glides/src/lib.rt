@@ -31,7 +31,7 @@ fn lowest_of(m: usize, before: &[u32; SLOTS], s: u32, left: u32) -> Option<usize
     None
 }
 
-// The lowest event of `left` of which all that has to come before is placed, and which leads to a set that is not marked; none if there is no such event.
+// The same, and it leads to a set that is not marked. A closure for this one test would need a contract as long as the loop.
 fn next_of(
     k: usize,
     m: usize,
@@ -92,6 +92,7 @@ impl<'a> Entries<'a> {
         ensures { Barred self.now.between.now self.now.readers.now self.now.writers.now self.now.n s result }
     {
         let mut c: u32 = 0;
+        // Three arrays side by side: an iterator over all three is no plainer.
         for i in 0..self.n {
             let on = sets::has(s, self.writers[i] as usize)
                 & !sets::has(s, self.readers[i] as usize);

@@ -47,7 +47,8 @@ fn writers(t: &[u8; COLUMNS], n: usize, b: usize) -> u32
     s
 }
 
-// Each of the first n masks gains v where the key x stands; without a jump, and several masks at once.
+// Each of the first n masks gains v where the key x stands; without a jump, and several masks at once. By number: of what an adapter of `iter_mut` leaves the
+// check knows nothing.
 fn gains(keys: &[u32; ACCESSES], n: usize, x: u32, v: usize, eq: &mut [u32])
     ensures { eq.new ≡ placing (match (λ (k : ℕ). eqb (get_or keys.now k 0) x) (v % slots) eq.old) (min n (min accesses (length eq.old))) eq.old }
 {

@@ -29,13 +29,14 @@ pub struct Breach {
     pub names: Names,
 }
 
-// Whether a consistent sheet has an unsettled pair, and the lowest.
+// Whether a consistent sheet has an unsettled pair, and the lowest. No Option: the cases are the report's words, and most theorems speak of them.
 #[derive(Clone, Copy)]
 pub enum Settled {
     Orderly,
     Unsettled(u8, u8),
 }
 
+// Refusals and rules stand by number, as the line and the word have them and the theorems of crate `model`; what is wrong with a sheet has a name in `faults::Fault`.
 #[derive(Clone, Copy)]
 pub enum Answer {
     // the refusal's number, and the place

@@ -9,11 +9,9 @@ ghost use Rattle.orders.specs.Answer.{Answered};
 ghost use Rattle.arrange.specs.Arranged.{bars_of, said_of};
 
 use answer::{Answer, Names};
+use gather::PAIRS;
 use sets::SLOTS;
 use tables::{COLUMNS, ROW_CELLS};
-
-// How many masks of bars there are: one for each V and W.
-const BARS: usize = SLOTS * SLOTS;
 
 // Whether there is an order, and the first one, by the table of all bars; it goes to the front of the order buffer.
 pub fn by_table(
@@ -29,7 +27,7 @@ pub fn by_table(
 ) -> bool
     ensures { Answered inits events pred.now (bars_of t.now events succ.now pred.now q.now rows) scratch.old order.old result scratch.new order.new }
 {
-    let mut bars = [0u32; BARS];
+    let mut bars = [0u32; PAIRS];
     bars::fill(t, events, succ, pred, q, rows, &mut bars);
     first_order::first(inits, events, pred, &bars, scratch, order)
 }

@@ -89,7 +89,7 @@ fn gained(y: u32, test: bool, x: u32) -> u32
 }
 
 // The masks at the members of the set m gain x. All places are looked at, or the first 12 or 24 where the members lie below, without a jump and by a
-// fixed number, so that the machine takes several at once.
+// fixed number, so that the machine takes several at once. By number, here and in `merge`: of what an adapter of `iter_mut` leaves the check knows nothing.
 fn grow(masks: &mut [u32], m: u32, x: u32)
     requires { length masks.old ≡ slots }
     ensures { Grew m x masks.old masks.new }

@@ -38,7 +38,7 @@ impl Fault {
     }
 }
 
-// The place of a refusal of a field, from its number and the place of the tag: made here and nowhere else.
+// The place of a refusal of a field, from its number and the place of the tag: made here and nowhere else. By number: a fault would ask more of callers.
 pub fn place_of(number: u8, tag: u16) -> u32
     ensures { result ≡ place_of number tag }
 {

@@ -252,7 +252,7 @@ fn press_list(
     requires { Forced (tabled m before.now (listed_bars between.now readers.now writers.now n)) k before.now f.old × (k ≤ m) × (m ≤ slots) × (n ≤ list_room) }
     ensures { Forced (tabled m before.now (listed_bars between.now readers.now writers.now n)) k before.now f.new }
 {
-    // Three arrays side by side, as C lends them: an iterator over all three is no plainer.
+    // Three arrays, side by side in the public function too: an iterator over all three is no plainer.
     for i in 0..n {
         let reader = readers[i] as usize % SLOTS;
         let writer = writers[i] as usize % SLOTS;

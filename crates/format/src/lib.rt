@@ -18,7 +18,8 @@ pub const MAX_OTHERS: u8 = 18;
 
 pub const MAX_PAIRS: u16 = 32;
 
-// The shape of an access: all of it but its bytes. tear: 0 may tear, 1 tear-free.
+// The shape of an access: all of it but its bytes. tear: 0 may tear, 1 tear-free. Kind, mode and tear stay the sheet's bytes, and no enums: what a sheet says is
+// read whatever it is and tested after (crate `content`), and the tests go by single bits of it, without a jump.
 #[derive(Clone, Copy)]
 pub struct Shape {
     pub kind: u8,

@@ -24,7 +24,7 @@ use sets::SLOTS;
 // How many numbers bars can have.
 const NUMBERS: usize = PAIRS * SLOTS;
 
-// The answer: all bars together leave an order; how many are kept; the buffer can't hold the kept list; the inputs do not fit.
+// The answer, four cases of their own, so no Option or Result: all bars together leave an order; how many are kept; the buffer can't hold the kept list; the inputs do not fit.
 #[derive(Clone, Copy)]
 pub enum Finding {
     Order,

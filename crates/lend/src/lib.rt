@@ -15,7 +15,7 @@ use sizes::PAIR_BYTES;
 
 #[derive(Clone, Copy)]
 pub enum Lent {
-    // by number and place; 15 with the number of the first buffer that is too short: 0 head, 1 events, 2 data, 3 rows, 4 pairs
+    // by number and place, as the word has them; 15 with the number of the first buffer that is too short: 0 head, 1 events, 2 data, 3 rows, 4 pairs
     Refused(u8, u32),
     // how many events, data bytes, rows and pairs
     Table(u8, u16, u16, u16),

@@ -21,6 +21,7 @@ use sets::SLOTS;
 use spot::{Spot, Tally};
 use tables::COLUMNS;
 
+// By number: `fill` makes two loops of it, the last place apart.
 fn clear(at: &mut [u16])
     requires { length at.old ≡ slots }
     ensures { at.new ≡ blank_places }
@@ -151,6 +152,7 @@ fn end_of(s: &[u8], p: u16, high: u16) -> u16
     high
 }
 
+// This loop and the two below go on by a field's length and end at the first field that is left, so that none is a `for`.
 fn inits(s: &[u8], spot: Spot, at: &mut [u16], t: &mut [u8]) -> Spot
     requires { Stands s.now spot at.old }
     ensures { Grown s.now spot at.old t.old result at.new t.new × InitsLeft s.now spot result at.new }

@@ -35,7 +35,8 @@ fn line_by(x: Answer, order: &[u8], text: &mut [u8], out: &mut [u8]) -> usize
 }
 
 // Writes the report line of x to the start of `out`, and answers its length. `order` is the event numbers that a consistent answer
-// tells; other answers leave it unread. Where the line does not fit, nothing is written and the answer is 0.
+// tells; other answers leave it unread. Where the line does not fit, nothing is written and the answer is 0:
+// no line is empty, and a call that cannot fail stays one.
 pub fn line(x: Answer, order: &[u8], out: &mut [u8]) -> usize
     ensures { Lined x order.now out.old result out.new }
 {

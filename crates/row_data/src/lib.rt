@@ -9,7 +9,7 @@ use format::field::FIELD_BYTES;
 use format::{Shape, field};
 use tables::ACCESSES;
 
-// The access of event e whose data is read: that in its first slot.
+// The access of event e whose data is read: that in its first slot. Beside `tables::shape`, which asks for a whole table: `row` answers for any slice.
 fn access(t: &[u8], e: u8) -> Shape
     ensures { result ≡ laid_shape t.now e }
 {

@@ -38,7 +38,7 @@ pub fn subset(a: u32, b: u32) -> bool
     a & !b == 0
 }
 
-// The least member of a set; 32 where it has none.
+// The least member of a set; 32 where it has none, as the machine's instruction has it: no Option, since callers test the set.
 pub fn lowest(s: u32) -> usize
     ensures { Lowest s result }
 {

@@ -139,7 +139,7 @@ fn at_field(fault: Fault, tag: u16) -> Refusal
     }
 }
 
-// The fields, front to back, up to the first at fault, the events and rows into the tables.
+// The fields, front to back, up to the first at fault, the events and rows into the tables. No `for`: a field's length says where the next one stands.
 fn fields(s: &[u8], at: &mut [u16; SLOTS], t: &mut [u8; COLUMNS], q: &mut [u8]) -> Scan
     requires { length s.now ≤ max_bytes }
     ensures { Scanned s.now t.old q.old result at.new t.new q.new }

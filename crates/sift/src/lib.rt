@@ -74,7 +74,7 @@ fn note(t: &[u8; COLUMNS], n: usize, by: &mut [u32]) -> Noted
 
 // ---- equal ranges
 
-// Each mask gains v where the key x stands; several masks at once.
+// Each mask gains v where the key x stands; several masks at once. By number, as in crate `alike`.
 fn gains(by: &[u32; SLOTS], x: u32, v: usize, eq: &mut [u32])
     requires { length eq.old ≡ slots }
     ensures { eq.new ≡ placing (match (λ (e : ℕ). eqb (get_or by.now e 0) x) (v % slots) eq.old) slots eq.old }

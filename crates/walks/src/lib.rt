@@ -109,7 +109,7 @@ impl<'a> Bars for Table<'a> {
 // ---- the walk
 
 // Walks through the sets from that of the inits on, always to the lowest event that leads to a set not entered before, until all events are
-// placed or no way is left. After a step back it goes on behind the event just taken back.
+// placed or no way is left. After a step back it goes on behind the event just taken back: so it goes over nothing that a `for` could.
 fn walk<B: Bars>(
     k: usize,
     m: usize,

@@ -31,7 +31,7 @@ fn one_if_same(a: u8, b: u8) -> u32
     (a == b) as u32
 }
 
-// The fields before place p that have the tag of the field at p.
+// The fields before place p that have the tag of the field at p. No `for`: a field's length says where the next one stands.
 fn same_before(s: &[u8], p: u32) -> u32
     requires { p ≤ max_bytes }
     ensures { result ≡ same_from s.now (suc p) 0 p }

@@ -14,7 +14,7 @@ ghost use Rattle.why.specs.Explained.{Explained};
 ghost use Rattle.why.specs.Word.{settled_word, why_word};
 ghost use Rattle.why.specs.steps.Told.{told_of};
 
-use answer::{Four, Name, Names, Settled};
+use answer::{Four, Names, Settled};
 use entries::Counts;
 use gather::PAIRS;
 use kept::Finding;
@@ -134,15 +134,11 @@ fn settled_word(s: Settled) -> u64
     ensures { result ≡ settled_word s }
 {
     match s {
-        Settled::Orderly => answer::word(
-            3,
-            0,
-            answer::four_bytes(Four(Name::None, Name::None, Name::None, Name::None)),
-        ),
+        Settled::Orderly => answer::word(3, 0, answer::four_bytes(Four(None, None, None, None))),
         Settled::Unsettled(e, d) => answer::word(
             3,
             1,
-            answer::four_bytes(Four(Name::Number(e), Name::Number(d), Name::None, Name::None)),
+            answer::four_bytes(Four(Some(e), Some(d), None, None)),
         ),
     }
 }

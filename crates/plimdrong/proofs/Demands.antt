@@ -26,9 +26,8 @@ use Rattle.encode.specs.Encode.{encode}
 use Rattle.encode.specs.Lend.{Slices, table_in}
 use Rattle.encode.specs.Copy.{table_at, slices_at, copy_of}
 use Rattle.encode.proofs.CopyLaws.{slices_at_lem, copies}
-use Rattle.writer.specs.declared.Written.{Written}
-use Rattle.writer.specs.declared.Written.TheVariants.{Sheet}
-use Rattle.writer.specs.Written.{Wrote}
+use Rattle.std.proofs.Common.{Ok}
+use Rattle.writer.specs.Written.{Written, Wrote}
 use Rattle.writer.specs.Word.{written_word, written_in}
 use Rattle.writer.proofs.Demands.{reads_back, writes_back, fits_word}
 use Rattle.lend.specs.declared.Lent.{Lent}
@@ -82,10 +81,10 @@ pub write_tells : WriteTells
 write_tells l out r out' w = subst (λ (a : Written). Wrote (encode (table_in l)) out a out') (sym (written_read l out r out' w)) w.wrote
 
 -- a word of kind 5 is that of a sheet, and its place is the length
-written_sheet : (l : Slices) (out : List ℕ) (r : ℕ) (out' : List ℕ) → WrittenWord l out r out' → kind_in r ≡ 5 → Wrote (encode (table_in l)) out (Sheet (place_in r)) out'
+written_sheet : (l : Slices) (out : List ℕ) (r : ℕ) (out' : List ℕ) → WrittenWord l out r out' → kind_in r ≡ 5 → Wrote (encode (table_in l)) out (Ok (place_in r)) out'
 unfolding written_in
 written_sheet l out r out' w k =
-    let e : written_in r ≡ Sheet (place_in r) = rw k refl in
+    let e : written_in r ≡ Ok (place_in r) = rw k refl in
     subst (λ (a : Written). Wrote (encode (table_in l)) out a out') e (write_tells l out r out' w)
 
 -- ---- a sheet's table

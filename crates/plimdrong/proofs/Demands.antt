@@ -26,7 +26,6 @@ use Rattle.encode.specs.Encode.{encode}
 use Rattle.encode.specs.Lend.{Slices, table_in}
 use Rattle.encode.specs.Copy.{table_at, slices_at, copy_of}
 use Rattle.encode.proofs.CopyLaws.{slices_at_lem, copies}
-use Rattle.std.proofs.Common.{Ok}
 use Rattle.writer.specs.Written.{Written, Wrote}
 use Rattle.writer.specs.Word.{written_word, written_in}
 use Rattle.writer.proofs.Demands.{reads_back, writes_back, fits_word}

@@ -29,9 +29,7 @@ use Rattle.encode.proofs.CopyLaws.{slices_at_lem, copies}
 use Rattle.writer.specs.Written.{Written, Wrote}
 use Rattle.writer.specs.Word.{written_word, written_in}
 use Rattle.writer.proofs.Demands.{reads_back, writes_back, fits_word}
-use Rattle.lend.specs.declared.Lent.{Lent}
-use Rattle.lend.specs.declared.Lent.TheVariants.{Refused as Unlent, Table as Given}
-use Rattle.lend.specs.Lending.{Lending}
+use Rattle.lend.specs.Lending.{Lent, Lending}
 use Rattle.lend.specs.Word.{lent_word}
 use Rattle.lend.specs.Demands.{TableOf}
 use Rattle.lend.proofs.Demands.{lends_the_table, refused_word}
@@ -43,7 +41,7 @@ use Rattle.model.proofs.Editions.{by_record}
 use Rattle.plimdrong.specs.JudgedWord.{JudgedWord}
 use Rattle.plimdrong.specs.WrittenWord.{WrittenWord}
 use Rattle.log_check.specs.declared.Reply.TheVariants.{Listed}
-use Rattle.std.specs.Prelude.{Ok}
+use Rattle.std.specs.Prelude.{Ok, Err}
 use Rattle.log_check.specs.Checked.{Checked}
 use Rattle.log_check.specs.Word.{checked_word, reply_in}
 use Rattle.log_check.proofs.Demands.{reported_accepted, accepted_consistent, replays}
@@ -93,11 +91,11 @@ lent_table : (s : List ℕ) (entry exit : Slices) (w : ℕ) → TableWord s entr
 lent_table s entry exit w t k = go t.answer t.lending t.word
   where
     go : (a : Lent) → Lending s entry a exit → w ≡ lent_word a → TableOf s (fronts_in w exit)
-    go (Unlent n p) l e = let z : ◌≡◌ {A = ℕ} 1 14 = sym (refused_word s entry exit n p l).0 ∙ ap kind_in (sym e) ∙ k in absurd (omega arith)
-    go (Given c d r p) l e =
-        let f = fits-lent s entry exit c d r p l in
+    go (Err u) l e = let z : ◌≡◌ {A = ℕ} 1 14 = sym (refused_word s entry exit u.number u.place l).0 ∙ ap kind_in (sym e) ∙ k in absurd (omega arith)
+    go (Ok n) l e =
+        let f = fits-lent s entry exit n.events n.bytes n.rows n.pairs l in
         subst (λ (u : ℕ). TableOf s (fronts_in u exit)) (sym e)
-        (rw (f.events, f.bytes, f.rows, f.pairs) (lends_the_table s entry exit c d r p l))
+        (rw (f.events, f.bytes, f.rows, f.pairs) (lends_the_table s entry exit n.events n.bytes n.rows n.pairs l))
 
 same_execution : (s : List ℕ) (x y : Execution) → parse s ≡ whole x → parse s ≡ whole y → x ≡ y
 same_execution s x y e f = let z : whole x ≡ whole y = sym e ∙ f in cc

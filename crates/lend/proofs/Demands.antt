@@ -10,19 +10,18 @@ use Rattle.lend.specs.Demands.{LendsTheTable, RefusedKeeps, ShortOfWhole, AmpleR
 use Rattle.encode.specs.Table.{table_of}
 use Rattle.encode.specs.Lend.{Slices, slices_of}
 use Rattle.encode.proofs.RoomLaws.{events_room, data_room, rows_room, pairs_room}
-use Rattle.lend.specs.declared.Lent.TheVariants.{Refused, Table}
-use Rattle.lend.specs.Lending.{no_buffer, short_by, short_of}
+use Rattle.lend.specs.Lending.{unlent, given, no_buffer, short_by, short_of}
 use Rattle.lend.proofs.LendingLaws.{lending_unique}
 use Rattle.lend.proofs.WaysLaws.{lending_ways, refused_kept, refused_small, short_whole, table_back, table_fits}
 
 pub lends_the_table : LendsTheTable
-lends_the_table s entry exit e d r p w = table_back (lending_ways s entry exit (Table e d r p) w) refl
+lends_the_table s entry exit e d r p w = table_back (lending_ways s entry exit (given e d r p) w) refl
 
 pub refused_keeps : RefusedKeeps
-refused_keeps s entry exit n p w = refused_kept (lending_ways s entry exit (Refused n p) w) refl
+refused_keeps s entry exit n p w = refused_kept (lending_ways s entry exit (unlent n p) w) refl
 
 pub short_of_whole : ShortOfWhole
-short_of_whole s entry exit k w = short_whole (lending_ways s entry exit (Refused 15 k) w) refl
+short_of_whole s entry exit k w = short_whole (lending_ways s entry exit (unlent 15 k) w) refl
 
 nothing_short : (l b : Slices) → length l.head ≤ length b.head → length l.events ≤ length b.events → length l.bytes ≤ length b.bytes
     → length l.rows ≤ length b.rows → length l.pairs ≤ length b.pairs → short_of l b ≡ no_buffer
@@ -52,9 +51,9 @@ pub agree : LendingAgree
 agree s entry q r exit exit' a b = lending_unique a b
 
 pub fits_word : TableFitsWord
-fits_word s entry exit e d r p w = table_fits (lending_ways s entry exit (Table e d r p) w) refl
+fits_word s entry exit e d r p w = table_fits (lending_ways s entry exit (given e d r p) w) refl
 
 pub refused_word : RefusedWord
 refused_word s entry exit n p w =
-    let b = refused_small (lending_ways s entry exit (Refused n p) w) refl in
+    let b = refused_small (lending_ways s entry exit (unlent n p) w) refl in
     (kind_in_lem 1 n p (omega arith) b.0 b.1, number_in_lem 1 n p (omega arith) b.0 b.1, place_in_lem 1 n p (omega arith) b.0 b.1)

@@ -24,23 +24,21 @@ use Rattle.encode.specs.Lend.{Slices, slices_of, five}
 use Rattle.puts.specs.Put.{Puts, overlaid}
 use Rattle.puts.proofs.PutLaws.{puts_put, put_front}
 use Rattle.slices.specs.Sliced.{events_slice, data_slice, rows_slice, pairs_slice, data_sum}
-use Rattle.lend.specs.declared.Lent.{Lent}
-use Rattle.lend.specs.declared.Lent.TheVariants.{Refused, Table}
-use Rattle.lend.specs.Lending.{no_buffer, short_by, short_of, lent_by, held_by, filled_by, Lending}
+use Rattle.lend.specs.Lending.{Lent, unlent, given, no_buffer, short_by, short_of, lent_by, held_by, filled_by, Lending}
 use Rattle.lend.proofs.WholeLaws.{slices_whole, events_long, data_long, rows_long, pairs_long}
 
 pub lending_unique : {s : List ℕ} {entry exit exit' : Slices} {q r : Lent} → Lending s entry q exit → Lending s entry r exit' → (q ≡ r) × (exit ≡ exit')
 lending_unique a b = (a.answer ∙ sym b.answer, a.buffers ∙ sym b.buffers)
 
-pub lending_refused : {s : List ℕ} {n p : ℕ} (entry : Slices) → parse s ≡ refused n p → Lending s entry (Refused n p) entry
+pub lending_refused : {s : List ℕ} {n p : ℕ} (entry : Slices) → parse s ≡ refused n p → Lending s entry (unlent n p) entry
 lending_refused entry e = record { answer = sym (ap (λ q. lent_by q entry) e); buffers = sym (ap (λ q. held_by q entry) e) }
 
 -- where there is room, what was put is a front
 overlaid_put : {piece e f : List ℕ} {n : ℕ} → length piece ≤ length e → Puts piece 0 n e f → f ≡ overlaid piece e
 overlaid_put h a = (put_front (puts_put (omega arith) a)).1
 
-table_same : {a b c d a' b' c' d' : ℕ} → a ≡ a' → b ≡ b' → c ≡ c' → d ≡ d' → Table a b c d ≡ Table a' b' c' d'
-table_same p q r t = λ i. Table (p i) (q i) (r i) (t i)
+table_same : {a b c d a' b' c' d' : ℕ} → a ≡ a' → b ≡ b' → c ≡ c' → d ≡ d' → given a b c d ≡ given a' b' c' d'
+table_same p q r t = λ i. given (p i) (q i) (r i) (t i)
 
 five_same : {b : Slices} {h e d r p : List ℕ} → b.head ≡ h → b.events ≡ e → b.bytes ≡ d → b.rows ≡ r → b.pairs ≡ p → b ≡ five h e d r p
 five_same a f g j k = λ i. five (a i) (f i) (g i) (j i) (k i)
@@ -93,7 +91,7 @@ module _ (s : List ℕ) (x : Counts) (at : List ℕ) (w : HandedWhole s x at) (e
   short_is : {k : ℕ} → Asked k → k ≡ short_of l entry
   short_is e = short_drawn e ∙ ap (λ (m : Slices). short_of m entry) (sym (slices_whole s x at w))
 
-  pub lending_short : {k : ℕ} → Asked k → k < no_buffer → Lending s entry (Refused 15 k) entry
+  pub lending_short : {k : ℕ} → Asked k → k < no_buffer → Lending s entry (unlent 15 k) entry
   lending_short {k} e h =
       let t : ltb (short_of l entry) no_buffer ≡ true = ap (λ (m : ℕ). ltb m no_buffer) (sym (short_is e)) ∙ lt-ltb _ _ h in
       record { answer = rw (w.says, t, ← (short_is e)) refl; buffers = simp (w.says, t) }
@@ -108,7 +106,7 @@ module _ (s : List ℕ) (x : Counts) (at : List ℕ) (w : HandedWhole s x at) (e
         → Puts (data_slice s x at) 0 g entry.bytes exit.bytes
         → Puts (rows_slice s x) 0 i entry.rows exit.rows
         → Puts (pairs_slice s x) 0 j entry.pairs exit.pairs
-        → Lending s entry (Table x.events d x.rows x.pairs) exit
+        → Lending s entry (given x.events d x.rows x.pairs) exit
     lending_filled {exit} p q r t u =
         let z : ltb (short_of l entry) no_buffer ≡ false = ap (λ (m : ℕ). ltb m no_buffer) (sym (short_is e)) ∙ le-ltb _ _ h in
         record {

@@ -18,7 +18,7 @@ use Rattle.encode.specs.Encode.{field, head_value, event_value, row_value, pair_
 use Rattle.encode.specs.Lend.{data_of, flat, slices_of}
 use Rattle.encode.proofs.EncodeLaws.{length_field, said_long, sheet_split}
 use Rattle.encode.proofs.WrittenBack.{written_back}
-use Rattle.lend.specs.declared.Lent.TheVariants.{Table as Given}
+use Rattle.lend.specs.Lending.{given}
 use Rattle.lend.specs.Word.{lent_word}
 use Rattle.lend.specs.Demands.{WordOf}
 
@@ -80,5 +80,5 @@ module _ (s : List ℕ) (x : Execution) (w : parse s ≡ whole x) where
 
 -- ---- the word
 
-pub word_parts : (e d r p : ℕ) → e < 2 ^ 8 → d < 2 ^ 12 → r < 2 ^ 12 → p < 2 ^ 8 → WordOf (lent_word (Given e d r p)) e d r p
+pub word_parts : (e d r p : ℕ) → e < 2 ^ 8 → d < 2 ^ 12 → r < 2 ^ 12 → p < 2 ^ 8 → WordOf (lent_word (given e d r p)) e d r p
 word_parts e d r p a b c f = record { kind = omega arith; events = omega arith; pairs = omega arith; rows = omega arith; bytes = omega arith }

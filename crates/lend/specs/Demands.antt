@@ -15,9 +15,7 @@ use Rattle.answer.specs.Read.{kind_in, number_in, place_in}
 use Rattle.encode.specs.Table.{table_of}
 use Rattle.encode.specs.Lent.{description_bytes}
 use Rattle.encode.specs.Lend.{Slices, slices_of, table_in, five}
-use Rattle.lend.specs.declared.Lent.{Lent}
-use Rattle.lend.specs.declared.Lent.TheVariants.{Refused, Table}
-use Rattle.lend.specs.Lending.{no_buffer, short_of, Lending}
+use Rattle.lend.specs.Lending.{Lent, unlent, given, no_buffer, short_of, Lending}
 use Rattle.lend.specs.Word.{lent_word}
 
 -- what a caller lends further: of each buffer as much as the answer and the head's edition say
@@ -33,10 +31,10 @@ pub record TableOf (s : List ℕ) (l : Slices) : Type 0 where
   pub back : table_in l ≡ table_of execution
 
 abbrev pub LendsTheTable : Type 0
-LendsTheTable = (s : List ℕ) (entry exit : Slices) (e d r p : ℕ) → Lending s entry (Table e d r p) exit → TableOf s (fronts exit e d r p)
+LendsTheTable = (s : List ℕ) (entry exit : Slices) (e d r p : ℕ) → Lending s entry (given e d r p) exit → TableOf s (fronts exit e d r p)
 
 abbrev pub RefusedKeeps : Type 0
-RefusedKeeps = (s : List ℕ) (entry exit : Slices) (n p : ℕ) → Lending s entry (Refused n p) exit → exit ≡ entry
+RefusedKeeps = (s : List ℕ) (entry exit : Slices) (n p : ℕ) → Lending s entry (unlent n p) exit → exit ≡ entry
 
 pub record Short (s : List ℕ) (entry : Slices) (k : ℕ) : Type 0 where
   pub execution : Execution
@@ -45,7 +43,7 @@ pub record Short (s : List ℕ) (entry : Slices) (k : ℕ) : Type 0 where
   pub one : k < no_buffer
 
 abbrev pub ShortOfWhole : Type 0
-ShortOfWhole = (s : List ℕ) (entry exit : Slices) (k : ℕ) → Lending s entry (Refused 15 k) exit → Short s entry k
+ShortOfWhole = (s : List ℕ) (entry exit : Slices) (k : ℕ) → Lending s entry (unlent 15 k) exit → Short s entry k
 
 -- the header's PLIMDRONG_MAX_TABLE_.., in numbers: 22 events of eight bytes; the data of four inits of 64 bytes and of 18 others of twice eight; eight rows for
 -- each of the others; 32 pairs
@@ -57,7 +55,7 @@ pub record Ample (b : Slices) : Type 0 where
   pub pairs : 64 ≤ length b.pairs
 
 abbrev pub AmpleRoom : Type 0
-AmpleRoom = (s : List ℕ) (entry exit : Slices) (k : ℕ) → Ample entry → Lending s entry (Refused 15 k) exit → ⊥
+AmpleRoom = (s : List ℕ) (entry exit : Slices) (k : ℕ) → Ample entry → Lending s entry (unlent 15 k) exit → ⊥
 
 abbrev pub LendingAgree : Type 0
 LendingAgree = (s : List ℕ) (entry : Slices) (q r : Lent) (exit exit' : Slices) → Lending s entry q exit → Lending s entry r exit' → (q ≡ r) × (exit ≡ exit')
@@ -70,8 +68,8 @@ pub record WordOf (w e d r p : ℕ) : Type 0 where
   pub bytes : w % 2 ^ 12 ≡ d
 
 abbrev pub TableFitsWord : Type 0
-TableFitsWord = (s : List ℕ) (entry exit : Slices) (e d r p : ℕ) → Lending s entry (Table e d r p) exit → WordOf (lent_word (Table e d r p)) e d r p
+TableFitsWord = (s : List ℕ) (entry exit : Slices) (e d r p : ℕ) → Lending s entry (given e d r p) exit → WordOf (lent_word (given e d r p)) e d r p
 
 abbrev pub RefusedWord : Type 0
-RefusedWord = (s : List ℕ) (entry exit : Slices) (n p : ℕ) → Lending s entry (Refused n p) exit
-    → (kind_in (lent_word (Refused n p)) ≡ 1) × (number_in (lent_word (Refused n p)) ≡ n) × (place_in (lent_word (Refused n p)) ≡ p)
+RefusedWord = (s : List ℕ) (entry exit : Slices) (n p : ℕ) → Lending s entry (unlent n p) exit
+    → (kind_in (lent_word (unlent n p)) ≡ 1) × (number_in (lent_word (unlent n p)) ≡ n) × (place_in (lent_word (unlent n p)) ≡ p)

@@ -7,9 +7,7 @@ use Rattle.basis.specs.Test.{each}
 use Rattle.parse.specs.Parse.{parse}
 use Rattle.parse.specs.Examples.{example, example_2}
 use Rattle.encode.specs.Lend.{Slices, five}
-use Rattle.lend.specs.declared.Lent.{Lent}
-use Rattle.lend.specs.declared.Lent.TheVariants.{Refused, Table}
-use Rattle.lend.specs.Lending.{lent_by, held_by}
+use Rattle.lend.specs.Lending.{Lent, unlent, given, lent_by, held_by}
 
 pub record Example : Type 0 where
   pub bytes : List ℕ
@@ -23,7 +21,7 @@ nines head events bytes rows pairs = five (replicate head 9) (replicate events 9
 
 -- an example that changes nothing
 abbrev pub kept : List ℕ → Slices → ℕ → ℕ → Example
-kept s b n p = record { bytes = s; entry = b; says = Refused n p; exit = b }
+kept s b n p = record { bytes = s; entry = b; says = unlent n p; exit = b }
 
 -- a head, an init, two agents' markers, a read-modify-write of a byte (seen 0, written 7), its row, a pair of the markers
 abbrev pub marked : List ℕ
@@ -37,20 +35,20 @@ examples =
     record {
       bytes = example;
       entry = nines 4 17 3 3 0;
-      says = Table 2 2 1 0;
+      says = given 2 2 1 0;
       exit = five (1 ∷ 1 ∷ 1 ∷ 9 ∷ []) (0 ∷ 2 ∷ 0 ∷ 0 ∷ 1 ∷ 0 ∷ 0 ∷ 1 ∷ 1 ∷ 1 ∷ 1 ∷ 0 ∷ 1 ∷ 1 ∷ 0 ∷ 1 ∷ 9 ∷ []) (0 ∷ 0 ∷ 9 ∷ []) (1 ∷ 0 ∷ 0 ∷ []) [];
     }
     -- 02 §4: at edition 2 the tear byte is the sheet's: a read that may tear
     ∷ record {
       bytes = example_2 0;
       entry = nines 3 16 2 4 1;
-      says = Table 2 2 1 0;
+      says = given 2 2 1 0;
       exit = five (2 ∷ 1 ∷ 1 ∷ []) (0 ∷ 2 ∷ 0 ∷ 0 ∷ 1 ∷ 0 ∷ 0 ∷ 1 ∷ 1 ∷ 1 ∷ 1 ∷ 0 ∷ 1 ∷ 0 ∷ 0 ∷ 1 ∷ []) (0 ∷ 0 ∷ []) (1 ∷ 0 ∷ 0 ∷ 9 ∷ []) (9 ∷ []);
     }
     ∷ record {
       bytes = marked;
       entry = nines 3 32 3 4 3;
-      says = Table 4 3 1 1;
+      says = given 4 3 1 1;
       exit =
           five (1 ∷ 2 ∷ 1 ∷ [])
           (0 ∷ 2 ∷ 0 ∷ 0 ∷ 1 ∷ 0 ∷ 0 ∷ 1 ∷ 1 ∷ 4 ∷ 2 ∷ 0 ∷ 0 ∷ 0 ∷ 0 ∷ 0 ∷ 2 ∷ 4 ∷ 2 ∷ 0 ∷ 0 ∷ 0 ∷ 0 ∷ 0 ∷ 1 ∷ 3 ∷ 2 ∷ 0 ∷ 1 ∷ 1 ∷ 0 ∷ 2 ∷ [])

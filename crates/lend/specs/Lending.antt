@@ -1,18 +1,27 @@
 -- The other way of the writer (02 §2: "Reading what was written gives the table back"): the table of a sheet, into lent buffers, for suites that mend
--- old sheets. `Lent` is the source's own enum: Refused with number and place, Table with the numbers of events, data bytes, rows and pairs.
+-- old sheets. `Lent` is a Result: `unlent` with number and place, `given` with the numbers of events, data bytes, rows and pairs.
 -- Laws: proofs/LendingLaws.antt.
 --     short_of l b                           the first buffer of b that is shorter than its slice of l; `no_buffer` where none is
 --     lent_by, held_by                        the answer and the buffers, by what the sheet says and what is lent
 --     Lending s entry r exit                r is the answer for the sheet s, and the buffers hold its table
 -- Assumes nothing.
-use Rattle.std.specs.Prelude.{◌≡◌, cond, List, ℕ, ltb, length}
+use Rattle.std.specs.Prelude.{◌≡◌, cond, List, ℕ, ltb, length, Result, Ok, Err}
 use Rattle.format.specs.Execution.{Execution}
 use Rattle.parse.specs.Parse.{Parsed, refused, whole, parse}
 use Rattle.encode.specs.Table.{table_of}
 use Rattle.puts.specs.Put.{overlaid}
 use Rattle.encode.specs.Lend.{Slices, five, slices_of}
-use Rattle.lend.specs.declared.Lent.{Lent}
-use Rattle.lend.specs.declared.Lent.TheVariants.{Refused, Table}
+use Rattle.lend.specs.declared.Amounts.{Amounts}
+use Rattle.lend.specs.declared.Unlent.{Unlent}
+
+abbrev pub Lent : Type 0
+Lent = Result Amounts Unlent
+
+abbrev pub unlent : ℕ → ℕ → Lent
+unlent n p = Err (record { number = n; place = p })
+
+abbrev pub given : ℕ → ℕ → ℕ → ℕ → Lent
+given e d r p = Ok (record { events = e; bytes = d; rows = r; pairs = p })
 
 -- the number that is no buffer's
 abbrev pub no_buffer : ℕ
@@ -35,11 +44,11 @@ short_of l b =
 -- 02 §2: "15 .. if the buffer is shorter than the sheet": here the place is the buffer's number
 abbrev pub answer_of : Execution → ℕ → Lent
 answer_of x k =
-    cond (ltb k no_buffer) (Refused 15 k)
-    (Table (length x.events) (length (slices_of (table_of x)).bytes) (length x.rows) (length x.pairs))
+    cond (ltb k no_buffer) (unlent 15 k)
+    (given (length x.events) (length (slices_of (table_of x)).bytes) (length x.rows) (length x.pairs))
 
 abbrev pub lent_by : Parsed → Slices → Lent
-lent_by (refused n p) b = Refused n p
+lent_by (refused n p) b = unlent n p
 lent_by (whole x) b = answer_of x (short_of (slices_of (table_of x)) b)
 
 -- 02 §2: "bytes after the sheet are unchanged"

@@ -2,11 +2,10 @@
 -- pairs, 12 of rows and 12 of data bytes, which the table of a sheet does not go beyond.
 --     lent_word r     the word
 -- Assumes nothing.
-use Rattle.std.specs.Prelude.{ℕ, ◌+◌, ◌*◌, ◌^◌}
+use Rattle.std.specs.Prelude.{ℕ, ◌+◌, ◌*◌, ◌^◌, Ok, Err}
 use Rattle.answer.specs.Word.{word}
-use Rattle.lend.specs.declared.Lent.{Lent}
-use Rattle.lend.specs.declared.Lent.TheVariants.{Refused, Table}
+use Rattle.lend.specs.Lending.{Lent}
 
 abbrev pub lent_word : Lent → ℕ
-lent_word (Refused n p) = word 1 n p
-lent_word (Table e d r p) = word 14 e (p * 2 ^ 24 + r * 2 ^ 12 + d)
+lent_word (Ok n) = word 14 n.events (n.pairs * 2 ^ 24 + n.rows * 2 ^ 12 + n.bytes)
+lent_word (Err e) = word 1 e.number e.place

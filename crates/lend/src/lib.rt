@@ -13,12 +13,20 @@ use entries::Counts;
 use sheet::reader;
 use sizes::PAIR_BYTES;
 
+// Why no table was lent: the refusal's number and the place; for 15 the number of the first buffer that is too short: 0 head, 1 events, 2 data, 3 rows, 4 pairs.
 #[derive(Clone, Copy)]
-pub enum Lent {
-    // by number and place, as the word has them; 15 with the number of the first buffer that is too short: 0 head, 1 events, 2 data, 3 rows, 4 pairs
-    Refused(u8, u32),
-    // how many events, data bytes, rows and pairs
-    Table(u8, u16, u16, u16),
+pub struct Unlent {
+    pub number: u8,
+    pub place: u32,
+}
+
+// How many events, data bytes, rows and pairs were lent.
+#[derive(Clone, Copy)]
+pub struct Amounts {
+    pub events: u8,
+    pub bytes: u16,
+    pub rows: u16,
+    pub pairs: u16,
 }
 
 // The bytes of an event's description, its data apart.
@@ -68,7 +76,7 @@ fn lend_whole(
     bytes: &mut [u8],
     rows: &mut [u8],
     pairs: &mut [u8],
-) -> Lent
+) -> Result<Amounts, Unlent>
     requires { HandedWhole s.now x at.now }
     ensures { Lending s.now (five head.old events.old bytes.old rows.old pairs.old) result (five head.new events.new bytes.new rows.new pairs.new) }
 {
@@ -83,14 +91,22 @@ fn lend_whole(
         pairs.len(),
     );
     if k < NO_BUFFER {
-        return Lent::Refused(15, k as u32);
+        return Err(Unlent {
+            number: 15,
+            place: k as u32,
+        });
     }
     slices::put_head(head, x.head);
     slices::put_events(events, s, x, at);
     slices::put_data(bytes, s, x, at);
     slices::put_rows(rows, s, x);
     slices::put_pairs(pairs, s, x);
-    Lent::Table(x.events, sum as u16, x.rows, x.pairs)
+    Ok(Amounts {
+        events: x.events,
+        bytes: sum as u16,
+        rows: x.rows,
+        pairs: x.pairs,
+    })
 }
 
 // The table of a sheet, each part from the first byte of its buffer on. What is refused changes nothing.
@@ -101,27 +117,28 @@ pub fn lend(
     bytes: &mut [u8],
     rows: &mut [u8],
     pairs: &mut [u8],
-) -> Lent
+) -> Result<Amounts, Unlent>
     ensures { Lending sheet.now (five head.old events.old bytes.old rows.old pairs.old) result (five head.new events.new bytes.new rows.new pairs.new) }
 {
     match reader::read(sheet) {
         Ok(w) => lend_whole(sheet, w.counts, &w.at, head, events, bytes, rows, pairs),
-        Err(r) => Lent::Refused(r.fault.number(), r.place),
+        Err(r) => Err(Unlent {
+            number: r.fault.number(),
+            place: r.place,
+        }),
     }
 }
 
 // The number that the suite's harness gets.
-pub fn pack(r: Lent) -> u64
+pub fn pack(r: Result<Amounts, Unlent>) -> u64
     ensures { result ≡ lent_word r }
 {
     match r {
-        Lent::Refused(number, place) => {
-            1 * 1099511627776 + number as u64 * 4294967296 + place as u64
+        Ok(n) => {
+            14 * (1 << 40)
+                + n.events as u64 * (1 << 32)
+                + (n.pairs as u64 * (1 << 24) + n.rows as u64 * (1 << 12) + n.bytes as u64)
         }
-        Lent::Table(events, bytes, rows, pairs) => {
-            14 * 1099511627776
-                + events as u64 * 4294967296
-                + (pairs as u64 * 16777216 + rows as u64 * 4096 + bytes as u64)
-        }
+        Err(e) => answer::word(1, e.number, e.place),
     }
 }

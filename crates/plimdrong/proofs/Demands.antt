@@ -26,14 +26,10 @@ use Rattle.encode.specs.Encode.{encode}
 use Rattle.encode.specs.Lend.{Slices, table_in}
 use Rattle.encode.specs.Copy.{table_at, slices_at, copy_of}
 use Rattle.encode.proofs.CopyLaws.{slices_at_lem, copies}
-use Rattle.writer.specs.declared.Written.{Written}
-use Rattle.writer.specs.declared.Written.TheVariants.{Sheet}
-use Rattle.writer.specs.Written.{Wrote}
+use Rattle.writer.specs.Written.{Written, Wrote}
 use Rattle.writer.specs.Word.{written_word, written_in}
 use Rattle.writer.proofs.Demands.{reads_back, writes_back, fits_word}
-use Rattle.lend.specs.declared.Lent.{Lent}
-use Rattle.lend.specs.declared.Lent.TheVariants.{Refused as Unlent, Table as Given}
-use Rattle.lend.specs.Lending.{Lending}
+use Rattle.lend.specs.Lending.{Lent, Lending}
 use Rattle.lend.specs.Word.{lent_word}
 use Rattle.lend.specs.Demands.{TableOf}
 use Rattle.lend.proofs.Demands.{lends_the_table, refused_word}
@@ -45,7 +41,7 @@ use Rattle.model.proofs.Editions.{by_record}
 use Rattle.plimdrong.specs.JudgedWord.{JudgedWord}
 use Rattle.plimdrong.specs.WrittenWord.{WrittenWord}
 use Rattle.log_check.specs.declared.Reply.TheVariants.{Listed}
-use Rattle.std.specs.Prelude.{Ok}
+use Rattle.std.specs.Prelude.{Ok, Err}
 use Rattle.log_check.specs.Checked.{Checked}
 use Rattle.log_check.specs.Word.{checked_word, reply_in}
 use Rattle.log_check.proofs.Demands.{reported_accepted, accepted_consistent, replays}
@@ -82,10 +78,10 @@ pub write_tells : WriteTells
 write_tells l out r out' w = subst (λ (a : Written). Wrote (encode (table_in l)) out a out') (sym (written_read l out r out' w)) w.wrote
 
 -- a word of kind 5 is that of a sheet, and its place is the length
-written_sheet : (l : Slices) (out : List ℕ) (r : ℕ) (out' : List ℕ) → WrittenWord l out r out' → kind_in r ≡ 5 → Wrote (encode (table_in l)) out (Sheet (place_in r)) out'
+written_sheet : (l : Slices) (out : List ℕ) (r : ℕ) (out' : List ℕ) → WrittenWord l out r out' → kind_in r ≡ 5 → Wrote (encode (table_in l)) out (Ok (place_in r)) out'
 unfolding written_in
 written_sheet l out r out' w k =
-    let e : written_in r ≡ Sheet (place_in r) = rw k refl in
+    let e : written_in r ≡ Ok (place_in r) = rw k refl in
     subst (λ (a : Written). Wrote (encode (table_in l)) out a out') e (write_tells l out r out' w)
 
 -- ---- a sheet's table
@@ -95,11 +91,11 @@ lent_table : (s : List ℕ) (entry exit : Slices) (w : ℕ) → TableWord s entr
 lent_table s entry exit w t k = go t.answer t.lending t.word
   where
     go : (a : Lent) → Lending s entry a exit → w ≡ lent_word a → TableOf s (fronts_in w exit)
-    go (Unlent n p) l e = let z : ◌≡◌ {A = ℕ} 1 14 = sym (refused_word s entry exit n p l).0 ∙ ap kind_in (sym e) ∙ k in absurd (omega arith)
-    go (Given c d r p) l e =
-        let f = fits-lent s entry exit c d r p l in
+    go (Err u) l e = let z : ◌≡◌ {A = ℕ} 1 14 = sym (refused_word s entry exit u.number u.place l).0 ∙ ap kind_in (sym e) ∙ k in absurd (omega arith)
+    go (Ok n) l e =
+        let f = fits-lent s entry exit n.events n.bytes n.rows n.pairs l in
         subst (λ (u : ℕ). TableOf s (fronts_in u exit)) (sym e)
-        (rw (f.events, f.bytes, f.rows, f.pairs) (lends_the_table s entry exit c d r p l))
+        (rw (f.events, f.bytes, f.rows, f.pairs) (lends_the_table s entry exit n.events n.bytes n.rows n.pairs l))
 
 same_execution : (s : List ℕ) (x y : Execution) → parse s ≡ whole x → parse s ≡ whole y → x ≡ y
 same_execution s x y e f = let z : whole x ≡ whole y = sym e ∙ f in cc

@@ -5,8 +5,7 @@
 use Rattle.std.specs.Prelude.{◌≡◌, List, ℕ, ◌^◌, ◌/◌, ◌%◌}
 use Rattle.answer.specs.Read.{number_in}
 use Rattle.encode.specs.Lend.{Slices}
-use Rattle.lend.specs.declared.Lent.{Lent}
-use Rattle.lend.specs.Lending.{Lending}
+use Rattle.lend.specs.Lending.{Lent, Lending}
 use Rattle.lend.specs.Word.{lent_word}
 use Rattle.lend.specs.Demands.{fronts}
 

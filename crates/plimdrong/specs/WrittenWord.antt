@@ -4,8 +4,7 @@
 use Rattle.std.specs.Prelude.{◌≡◌, List, ℕ}
 use Rattle.encode.specs.Encode.{encode}
 use Rattle.encode.specs.Lend.{Slices, table_in}
-use Rattle.writer.specs.declared.Written.{Written}
-use Rattle.writer.specs.Written.{Wrote}
+use Rattle.writer.specs.Written.{Written, Wrote}
 use Rattle.writer.specs.Word.{written_word}
 
 pub record WrittenWord (lent : Slices) (entry : List ℕ) (r : ℕ) (exit : List ℕ) : Type 0 where

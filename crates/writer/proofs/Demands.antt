@@ -28,8 +28,8 @@ use Rattle.encode.proofs.PlaceLaws.{short_index, refused_at, index_below}
 use Rattle.encode.proofs.AlikeLaws.{copy_long, copy_alike}
 use Rattle.encode.proofs.TearLaws.{tear_refused}
 use Rattle.encode.proofs.ShortLaws.{well_written}
-use Rattle.writer.specs.declared.Written.{Written}
-use Rattle.writer.specs.declared.Written.TheVariants.{Refused, Sheet}
+use Rattle.writer.specs.Written.{Written, unwritten}
+use Rattle.std.proofs.Common.{Ok, Err}
 use Rattle.writer.specs.Written.{told_by, told, left}
 use Rattle.writer.specs.Word.{written_word, written_in}
 use Rattle.writer.specs.Demands.{Agree, ReadsBack, WrittenBack, WritesBack, WritesExactly, Why, by_reader, no_room, Refuses, Numbers, RoomEnough, TearRefused, SameTold, both_refused, both_written, CopyTold, FitsWord}
@@ -39,19 +39,19 @@ agree s entry r q f g a b =
     let e : r ≡ q = a.answer ∙ sym b.answer in
     (e, a.buffer ∙ ap (λ (u : Written). left u s entry) e ∙ sym b.buffer)
 
-not_sheet : {A : Type 0} {n i m : ℕ} → Sheet m ≡ Refused n i → A
+not_sheet : {A : Type 0} {n i m : ℕ} → Ok m ≡ unwritten n i → A
 not_sheet e = let z : ◌≡◌ {A = ℕ} 0 1 = cc in absurd (omega arith)
 
 -- a sheet is told where it is whole and fits
-sheet_whole : (s : List ℕ) (room n : ℕ) → Sheet n ≡ told s room → (x : Execution) × (parse s ≡ whole x) × (n ≡ length s)
+sheet_whole : (s : List ℕ) (room n : ℕ) → Ok n ≡ told s room → (x : Execution) × (parse s ≡ whole x) × (n ≡ length s)
 unfolding told
 sheet_whole s room n e = go (parse s) refl e
   where
-    go : (p : Parsed) → parse s ≡ p → Sheet n ≡ told_by s room p → (x : Execution) × (parse s ≡ whole x) × (n ≡ length s)
+    go : (p : Parsed) → parse s ≡ p → Ok n ≡ told_by s room p → (x : Execution) × (parse s ≡ whole x) × (n ≡ length s)
     go (refused m q) f h = not_sheet h
     go (whole x) f h = (x, f, fits (ltb room (length s)) h)
       where
-        fits : (b : Bool) → Sheet n ≡ cond b (Refused 15 0) (Sheet (length s)) → n ≡ length s
+        fits : (b : Bool) → Ok n ≡ cond b (unwritten 15 0) (Ok (length s)) → n ≡ length s
         fits true k = not_sheet k
         fits false k = cc
 
@@ -72,31 +72,40 @@ unfolding told
 writes_back s x entry r exit well h w =
     let e = well_accepted s x well in
     let q = written_back s x e in
-    let a : r ≡ Sheet (length s) =
+    let a : r ≡ Ok (length s) =
     w.answer ∙ ap (λ (u : List ℕ). told u (length entry)) q ∙ ap (told_by s (length entry)) e
-    ∙ ap (λ (b : Bool). cond b (Refused 15 0) (Sheet (length s))) (le-ltb (length entry) (length s) h) in
+    ∙ ap (λ (b : Bool). cond b (unwritten 15 0) (Ok (length s))) (le-ltb (length entry) (length s) h) in
     (a, w.buffer ∙ ap (λ (u : Written). left u (encode (table_of x)) entry) a ∙ ap (λ (u : List ℕ). overlaid u entry) q)
 
 pub writes_exactly : WritesExactly
 writes_exactly t x =
     ((λ e. (promise (encode t) x e, read_back t x e)), (λ w. subst (λ (u : Table). parse (encode u) ≡ whole x) w.1 (well_written x w.0)))
 
+-- the number and the index of a refusal
+abbrev number_told : Written → ℕ
+number_told (Ok n) = 0
+number_told (Err e) = e.number
+
+abbrev index_told : Written → ℕ
+index_told (Ok n) = 0
+index_told (Err e) = e.index
+
 pub refuses : Refuses
 unfolding told
 refuses t entry n i exit w = (go (parse (encode t)) refl w.answer, w.buffer)
   where
-    go : (p : Parsed) → parse (encode t) ≡ p → Refused n i ≡ told_by (encode t) (length entry) p → Why t (length entry) n i
+    go : (p : Parsed) → parse (encode t) ≡ p → unwritten n i ≡ told_by (encode t) (length entry) p → Why t (length entry) n i
     go (refused m q) e f =
-        let g : n ≡ m = cc in
-        let h : i ≡ index_of (encode t) m q = cc in
+        let g : n ≡ m = ap number_told f in
+        let h : i ≡ index_of (encode t) m q = ap index_told f in
         let k : parse (encode t) ≡ refused n q = e ∙ ap (λ (j : ℕ). refused j q) (sym g) in
         by_reader q k (subst (Names t n q) (sym (h ∙ ap (λ (j : ℕ). index_of (encode t) j q) (sym g))) (refused_at t n q k))
     go (whole x) e f = short (ltb (length entry) (length (encode t))) refl f
       where
-        short : (b : Bool) → ltb (length entry) (length (encode t)) ≡ b → Refused n i ≡ cond b (Refused 15 0) (Sheet (length (encode t))) → Why t (length entry) n i
+        short : (b : Bool) → ltb (length entry) (length (encode t)) ≡ b → unwritten n i ≡ cond b (unwritten 15 0) (Ok (length (encode t))) → Why t (length entry) n i
         short true q k =
-            let g : n ≡ 15 = cc in
-            let h : i ≡ 0 = cc in
+            let g : n ≡ 15 = ap number_told k in
+            let h : i ≡ 0 = ap index_told k in
             subst (λ (m : ℕ). Why t (length entry) m i) (sym g) (subst (Why t (length entry) 15) (sym h) (no_room x e (ltb-true _ _ q)))
         short false q k = not_sheet (sym k)
 
@@ -155,8 +164,8 @@ module _ (t : Table) (one : t.head.edition ≡ 1) (len' : length (encode (table_
   told_alike p q (refused_alike {n} {p = p₁} {q = q₁} {i} a b) =
       let e : index_of (encode t) n p₁ ≡ i = short_index t len n p₁ i a in
       let f : index_of (encode u) n q₁ ≡ i = short_index u len' n q₁ i b in
-      subst (λ (j : ℕ). SameTold (length t.events) (Refused n j) (Refused n (index_of (encode u) n q₁))) (sym e)
-      (subst (λ (j : ℕ). SameTold (length t.events) (Refused n i) (Refused n j)) (sym f) (both_refused n i))
+      subst (λ (j : ℕ). SameTold (length t.events) (unwritten n j) (unwritten n (index_of (encode u) n q₁))) (sym e)
+      (subst (λ (j : ℕ). SameTold (length t.events) (unwritten n i) (unwritten n j)) (sym f) (both_refused n i))
   told_alike p q (whole_alike x) =
       let e : ltb room (length (encode t)) ≡ false = le-ltb room (length (encode t)) (let l = len in omega arith) in
       let f : ltb room' (length (encode u)) ≡ false = le-ltb room' (length (encode u)) (omega arith) in
@@ -172,13 +181,13 @@ copy_told t one rule len' entry entry' r r' exit exit' fits fits' w w' =
 -- ---- the word
 
 abbrev Held : Written → Type 0
-Held (Refused n i) = (n < 256) × (i < 2 ^ 32)
-Held (Sheet n) = n < 2 ^ 32
+Held (Err e) = (e.number < 256) × (e.index < 2 ^ 32)
+Held (Ok n) = n < 2 ^ 32
 
 held_in : (r : Written) → Held r → written_in (written_word r) ≡ r
 unfolding written_in
-held_in (Refused n i) h = rw (kind_in_lem 1 n i (omega arith) h.0 h.1, number_in_lem 1 n i (omega arith) h.0 h.1, place_in_lem 1 n i (omega arith) h.0 h.1) refl
-held_in (Sheet n) h = rw (kind_in_lem 5 0 n (omega arith) (omega arith) h, place_in_lem 5 0 n (omega arith) (omega arith) h) refl
+held_in (Err e) h = rw (kind_in_lem 1 e.number e.index (omega arith) h.0 h.1, number_in_lem 1 e.number e.index (omega arith) h.0 h.1, place_in_lem 1 e.number e.index (omega arith) h.0 h.1) refl
+held_in (Ok n) h = rw (kind_in_lem 5 0 n (omega arith) (omega arith) h, place_in_lem 5 0 n (omega arith) (omega arith) h) refl
 
 -- every answer is small
 told_held : (s : List ℕ) (room : ℕ) → Held (told s room)
@@ -189,7 +198,7 @@ told_held s room = go (parse s) refl
     go (refused n p) e = let l = refusal_low s n p e in let i = index_below s n p e in (omega arith, omega arith)
     go (whole x) e = fits (ltb room (length s)) (accepted_well s x e).short
       where
-        fits : (b : Bool) → length s ≤ max_bytes → Held (cond b (Refused 15 0) (Sheet (length s)))
+        fits : (b : Bool) → length s ≤ max_bytes → Held (cond b (unwritten 15 0) (Ok (length s)))
         fits true h = (omega arith, omega arith)
         fits false h = omega arith
 

@@ -19,30 +19,30 @@ use Rattle.parse.proofs.ParseLaws.{too_long}
 use Rattle.puts.specs.Put.{Puts}
 use Rattle.puts.proofs.PutLaws.{puts_put, puts_most, puts_full, put_front}
 use Rattle.encode.specs.Index.{no_entry, index_of}
-use Rattle.writer.specs.declared.Written.{Written}
-use Rattle.writer.specs.declared.Written.TheVariants.{Refused, Sheet}
+use Rattle.writer.specs.Written.{Written, unwritten}
+use Rattle.std.proofs.Common.{Ok}
 use Rattle.writer.specs.Written.{told, Wrote}
 
 module _ (s entry : List ℕ) where
-  pub wrote_refused : (n p i : ℕ) → parse s ≡ refused n p → i ≡ index_of s n p → Wrote s entry (Refused n i) entry
+  pub wrote_refused : (n p i : ℕ) → parse s ≡ refused n p → i ≡ index_of s n p → Wrote s entry (unwritten n i) entry
   unfolding told
-  wrote_refused n p i e f = record { answer = rw e (ap (Refused n) f); buffer = refl }
+  wrote_refused n p i e f = record { answer = rw e (ap (unwritten n) f); buffer = refl }
 
-  pub wrote_short : (x : Execution) → parse s ≡ whole x → length entry < length s → Wrote s entry (Refused 15 0) entry
+  pub wrote_short : (x : Execution) → parse s ≡ whole x → length entry < length s → Wrote s entry (unwritten 15 0) entry
   unfolding told
   wrote_short x e h = record { answer = rw (e, lt-ltb (length entry) (length s) h) refl; buffer = refl }
 
   -- the sheet is put at the buffer's front
-  pub wrote_whole : (x : Execution) (n : ℕ) (exit : List ℕ) → parse s ≡ whole x → length s ≤ length entry → Puts s 0 n entry exit → Wrote s entry (Sheet n) exit
+  pub wrote_whole : (x : Execution) (n : ℕ) (exit : List ℕ) → parse s ≡ whole x → length s ≤ length entry → Puts s 0 n entry exit → Wrote s entry (Ok n) exit
   unfolding told
   wrote_whole x n exit e h p =
       let w = put_front (puts_put (omega arith) p) in
       record {
-        answer = ap Sheet w.0 ∙ rw (e, le-ltb (length entry) (length s) h) refl;
+        answer = ap Ok w.0 ∙ rw (e, le-ltb (length entry) (length s) h) refl;
         buffer = w.1;
       }
 
-  pub wrote_long : max_bytes < length s → Wrote s entry (Refused 1 0) entry
+  pub wrote_long : max_bytes < length s → Wrote s entry (unwritten 1 0) entry
   unfolding index_of no_entry ◌or◌
   wrote_long h = wrote_refused 1 0 0 (too_long s h) refl
 

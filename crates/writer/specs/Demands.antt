@@ -13,7 +13,7 @@
 --                    one index, or written, the second sheet a byte longer for each event
 --     FitsWord       every answer fits the exported word, and is read back from it
 -- Assumes nothing.
-use Rattle.std.specs.Prelude.{◌≡◌, ◌⊎◌, ◌↔◌, List, ◌++◌, ℕ, ◌+◌, ◌<◌, ◌≤◌, length, take, drop}
+use Rattle.std.specs.Prelude.{◌≡◌, ◌⊎◌, ◌↔◌, List, ◌++◌, ℕ, ◌+◌, ◌<◌, ◌≤◌, length, take, drop, Ok}
 use Rattle.format.specs.declared.Head.{Head}
 use Rattle.format.specs.Limits.{max_bytes}
 use Rattle.format.specs.Shape.{tear_of}
@@ -26,9 +26,7 @@ use Rattle.encode.specs.Table.{Description, Table, table_of}
 use Rattle.encode.specs.Encode.{event_value, encode}
 use Rattle.encode.specs.Place.{Names}
 use Rattle.encode.specs.Copy.{table_at, ByTheRule}
-use Rattle.writer.specs.declared.Written.{Written}
-use Rattle.writer.specs.declared.Written.TheVariants.{Refused, Sheet}
-use Rattle.writer.specs.Written.{Wrote}
+use Rattle.writer.specs.Written.{Written, unwritten, Wrote}
 use Rattle.writer.specs.Word.{written_word, written_in}
 
 abbrev pub Agree : Type 0
@@ -36,7 +34,7 @@ Agree = (s entry : List ℕ) (r q : Written) (f g : List ℕ) → Wrote s entry 
 
 -- what is written is a whole sheet whose table is t, and nothing behind it has changed
 abbrev pub ReadsBack : Type 0
-ReadsBack = (t : Table) (entry : List ℕ) (n : ℕ) (exit : List ℕ) → Wrote (encode t) entry (Sheet n) exit
+ReadsBack = (t : Table) (entry : List ℕ) (n : ℕ) (exit : List ℕ) → Wrote (encode t) entry (Ok n) exit
     → (x : Execution) × (parse (take n exit) ≡ whole x) × (table_of x ≡ t) × (drop n exit ≡ drop n entry)
 
 abbrev pub WrittenBack : Type 0
@@ -44,7 +42,7 @@ WrittenBack = (s : List ℕ) (x : Execution) → parse s ≡ whole x → encode 
 
 abbrev pub WritesBack : Type 0
 WritesBack = (s : List ℕ) (x : Execution) (entry : List ℕ) (r : Written) (exit : List ℕ) → WellSheet s x → length s ≤ length entry
-    → Wrote (encode (table_of x)) entry r exit → (r ≡ Sheet (length s)) × (exit ≡ s ++ drop (length s) entry)
+    → Wrote (encode (table_of x)) entry r exit → (r ≡ Ok (length s)) × (exit ≡ s ++ drop (length s) entry)
 
 abbrev pub WritesExactly : Type 0
 WritesExactly = (t : Table) (x : Execution) → (parse (encode t) ≡ whole x) ↔ (WellFormed x × (table_of x ≡ t))
@@ -55,22 +53,22 @@ pub data Why (t : Table) (room : ℕ) : ℕ → ℕ → Type 0 where
   no_room : (x : Execution) → parse (encode t) ≡ whole x → room < length (encode t) → Why t room 15 0
 
 abbrev pub Refuses : Type 0
-Refuses = (t : Table) (entry : List ℕ) (n i : ℕ) (exit : List ℕ) → Wrote (encode t) entry (Refused n i) exit → Why t (length entry) n i × (exit ≡ entry)
+Refuses = (t : Table) (entry : List ℕ) (n i : ℕ) (exit : List ℕ) → Wrote (encode t) entry (unwritten n i) exit → Why t (length entry) n i × (exit ≡ entry)
 
 abbrev pub Numbers : Type 0
-Numbers = (t : Table) (entry : List ℕ) (n i : ℕ) (exit : List ℕ) → Wrote (encode t) entry (Refused n i) exit
+Numbers = (t : Table) (entry : List ℕ) (n i : ℕ) (exit : List ℕ) → Wrote (encode t) entry (unwritten n i) exit
     → (n ≡ 1) ⊎ ((4 ≤ n) × (n ≤ 11)) ⊎ (n ≡ 14) ⊎ (n ≡ 15)
 
 abbrev pub RoomEnough : Type 0
-RoomEnough = (t : Table) (entry : List ℕ) (i : ℕ) (exit : List ℕ) → max_bytes ≤ length entry → Wrote (encode t) entry (Refused 15 i) exit → ⊥
+RoomEnough = (t : Table) (entry : List ℕ) (i : ℕ) (exit : List ℕ) → max_bytes ≤ length entry → Wrote (encode t) entry (unwritten 15 i) exit → ⊥
 
 abbrev pub TearRefused : Type 0
 TearRefused = (h : Head) (events : List Event) (d : Description) → h.edition ≡ 1 → (d.tear ≡ tear_of d.kind d.mode d.start d.width → ⊥)
     → event_fault h events (event_value h.edition d) ≡ 6
 
 pub data SameTold (events : ℕ) : Written → Written → Type 0 where
-  both_refused : (n i : ℕ) → SameTold events (Refused n i) (Refused n i)
-  both_written : (n : ℕ) → SameTold events (Sheet n) (Sheet (n + events))
+  both_refused : (n i : ℕ) → SameTold events (unwritten n i) (unwritten n i)
+  both_written : (n : ℕ) → SameTold events (Ok n) (Ok (n + events))
 
 -- given room, and as long as the sheet of edition 2 is not too long (1)
 abbrev pub CopyTold : Type 0

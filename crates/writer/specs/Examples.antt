@@ -3,13 +3,11 @@
 --     Example, examples     the slices, the room, the bytes of the sheet, and the answer
 --     Right                 `encode` and `told` say so of each
 -- Assumes nothing.
-use Rattle.std.specs.Prelude.{◌≡◌, List, [], ◌∷◌, ◌++◌, ℕ}
+use Rattle.std.specs.Prelude.{◌≡◌, List, [], ◌∷◌, ◌++◌, ℕ, Ok}
 use Rattle.basis.specs.Test.{each}
 use Rattle.encode.specs.Encode.{encode}
 use Rattle.encode.specs.Lend.{Slices, five, table_in}
-use Rattle.writer.specs.declared.Written.{Written}
-use Rattle.writer.specs.declared.Written.TheVariants.{Refused, Sheet}
-use Rattle.writer.specs.Written.{told}
+use Rattle.writer.specs.Written.{Written, unwritten, told}
 
 pub record Example : Type 0 where
   pub slices : Slices
@@ -59,46 +57,46 @@ examples =
     of (five (1 ∷ 1 ∷ 1 ∷ []) (init 0 ++ read 1 1) (0 ∷ 0 ∷ []) (1 ∷ 0 ∷ 0 ∷ []) []) 30
     (0x01 ∷ 0x00 ∷ 0x03 ∷ 0x01 ∷ 0x01 ∷ 0x01 ∷ 0x02 ∷ 0x00 ∷ 0x06 ∷ 0x00 ∷ 0x02 ∷ 0x00 ∷ 0x00 ∷ 0x01 ∷ 0x00
     ∷ 0x02 ∷ 0x00 ∷ 0x06 ∷ 0x01 ∷ 0x01 ∷ 0x01 ∷ 0x00 ∷ 0x01 ∷ 0x00 ∷ 0x03 ∷ 0x00 ∷ 0x03 ∷ 0x01 ∷ 0x00 ∷ 0x00 ∷ [])
-    (Sheet 30)
+    (Ok 30)
     -- the same: a fourth byte of the head, rests of entries and bytes behind the last event's are not looked at
     ∷ of (five (1 ∷ 1 ∷ 1 ∷ 9 ∷ []) (init 0 ++ read 1 1 ++ (1 ∷ 1 ∷ 1 ∷ [])) (0 ∷ 0 ∷ 7 ∷ []) (1 ∷ 0 ∷ 0 ∷ 1 ∷ []) (4 ∷ [])) 31
-    (start 1 ++ reads ++ (3 ∷ 0 ∷ 3 ∷ 1 ∷ 0 ∷ 0 ∷ [])) (Sheet 30)
+    (start 1 ++ reads ++ (3 ∷ 0 ∷ 3 ∷ 1 ∷ 0 ∷ 0 ∷ [])) (Ok 30)
     -- 02 §4: 01's example at edition 2, tear-free and not, 32 bytes, which just fit; in 31: 15; a tear byte that is neither: 6; an init's: 6
-    ∷ example_2 0 1 32 (Sheet 32)
-    ∷ example_2 0 0 32 (Sheet 32)
-    ∷ example_2 0 0 31 (Refused 15 0)
-    ∷ example_2 0 2 99 (Refused 6 1)
-    ∷ example_2 1 1 99 (Refused 6 0)
+    ∷ example_2 0 1 32 (Ok 32)
+    ∷ example_2 0 0 32 (Ok 32)
+    ∷ example_2 0 0 31 (unwritten 15 0)
+    ∷ example_2 0 2 99 (unwritten 6 1)
+    ∷ example_2 1 1 99 (unwritten 6 0)
     -- at edition 2, a wrong tear byte without data: 6, before the wrong length; no data: 4; edition 3, laid out as edition 1: 5
-    ∷ of (five (2 ∷ 1 ∷ 1 ∷ []) (init 0 ++ read 2 0) (0 ∷ []) [] []) 99 (start_2 0 ++ (2 ∷ 0 ∷ 6 ∷ 1 ∷ 1 ∷ 1 ∷ 0 ∷ 1 ∷ 2 ∷ [])) (Refused 6 1)
-    ∷ of (five (2 ∷ 1 ∷ 1 ∷ []) (init 0 ++ read 0 0) (0 ∷ []) [] []) 99 (start_2 0 ++ (2 ∷ 0 ∷ 6 ∷ 1 ∷ 1 ∷ 1 ∷ 0 ∷ 1 ∷ 0 ∷ [])) (Refused 4 1)
-    ∷ of (five (3 ∷ 1 ∷ 1 ∷ []) (init 0 ++ read 1 1) (0 ∷ 0 ∷ []) [] []) 99 ((1 ∷ 0 ∷ 3 ∷ 3 ∷ 1 ∷ 1 ∷ 2 ∷ 0 ∷ 6 ∷ 0 ∷ 2 ∷ 0 ∷ 0 ∷ 1 ∷ 0 ∷ []) ++ reads) (Refused 5 0)
+    ∷ of (five (2 ∷ 1 ∷ 1 ∷ []) (init 0 ++ read 2 0) (0 ∷ []) [] []) 99 (start_2 0 ++ (2 ∷ 0 ∷ 6 ∷ 1 ∷ 1 ∷ 1 ∷ 0 ∷ 1 ∷ 2 ∷ [])) (unwritten 6 1)
+    ∷ of (five (2 ∷ 1 ∷ 1 ∷ []) (init 0 ++ read 0 0) (0 ∷ []) [] []) 99 (start_2 0 ++ (2 ∷ 0 ∷ 6 ∷ 1 ∷ 1 ∷ 1 ∷ 0 ∷ 1 ∷ 0 ∷ [])) (unwritten 4 1)
+    ∷ of (five (3 ∷ 1 ∷ 1 ∷ []) (init 0 ++ read 1 1) (0 ∷ 0 ∷ []) [] []) 99 ((1 ∷ 0 ∷ 3 ∷ 3 ∷ 1 ∷ 1 ∷ 2 ∷ 0 ∷ 6 ∷ 0 ∷ 2 ∷ 0 ∷ 0 ∷ 1 ∷ 0 ∷ []) ++ reads) (unwritten 5 0)
     -- 52 bytes in a buffer of 51: 15
     ∷ of (five (1 ∷ 2 ∷ 1 ∷ []) (init 0 ++ modify ++ marker 1 ++ marker 2) (0 ∷ 0 ∷ 5 ∷ []) (1 ∷ 0 ∷ 0 ∷ []) (2 ∷ 3 ∷ [])) 51
     (start 2 ++ (2 ∷ 0 ∷ 7 ∷ 1 ∷ 3 ∷ 2 ∷ 0 ∷ 1 ∷ 0 ∷ 5 ∷ 2 ∷ 0 ∷ 5 ∷ 1 ∷ 4 ∷ 2 ∷ 0 ∷ 0 ∷ 2 ∷ 0 ∷ 5 ∷ 2 ∷ 4 ∷ 2 ∷ 0 ∷ 0 ∷ 3 ∷ 0 ∷ 3 ∷ 1 ∷ 0 ∷ 0 ∷ 4 ∷ 0 ∷ 2 ∷ 2 ∷ 3 ∷ []))
-    (Refused 15 0)
+    (unwritten 15 0)
     -- no head lent: 5; a size that is lacking is 0: 5; nothing reads: 10
-    ∷ of (five [] [] [] [] []) 99 (1 ∷ 0 ∷ 3 ∷ 0 ∷ 0 ∷ 0 ∷ []) (Refused 5 0)
-    ∷ of (five (1 ∷ 1 ∷ []) [] [] [] []) 99 (1 ∷ 0 ∷ 3 ∷ 1 ∷ 1 ∷ 0 ∷ []) (Refused 5 0)
-    ∷ of (five (1 ∷ 2 ∷ 1 ∷ []) (init 0) (0 ∷ []) [] []) 99 (start 2) (Refused 10 0)
+    ∷ of (five [] [] [] [] []) 99 (1 ∷ 0 ∷ 3 ∷ 0 ∷ 0 ∷ 0 ∷ []) (unwritten 5 0)
+    ∷ of (five (1 ∷ 1 ∷ []) [] [] [] []) 99 (1 ∷ 0 ∷ 3 ∷ 1 ∷ 1 ∷ 0 ∷ []) (unwritten 5 0)
+    ∷ of (five (1 ∷ 2 ∷ 1 ∷ []) (init 0) (0 ∷ []) [] []) 99 (start 2) (unwritten 10 0)
     -- the second agent has no event: 14, before the row that is lacking; a read byte without a row: 11, before the buffer
-    ∷ of (five (1 ∷ 2 ∷ 1 ∷ []) (init 0 ++ read 1 1) (0 ∷ 0 ∷ []) [] []) 99 (start 2 ++ reads) (Refused 14 0)
-    ∷ of (five (1 ∷ 1 ∷ 1 ∷ []) (init 0 ++ read 1 1) (0 ∷ 0 ∷ []) [] []) 0 (start 1 ++ reads) (Refused 11 1)
+    ∷ of (five (1 ∷ 2 ∷ 1 ∷ []) (init 0 ++ read 1 1) (0 ∷ 0 ∷ []) [] []) 99 (start 2 ++ reads) (unwritten 14 0)
+    ∷ of (five (1 ∷ 1 ∷ 1 ∷ []) (init 0 ++ read 1 1) (0 ∷ 0 ∷ []) [] []) 0 (start 1 ++ reads) (unwritten 11 1)
     -- a tear byte that the rule does not give: 6, before the wrong length; data of the wrong length: 4; data that is not all there: 4
-    ∷ of (five (1 ∷ 1 ∷ 1 ∷ []) (init 0 ++ read 0 0) (0 ∷ []) [] []) 99 (start 1 ++ (2 ∷ 0 ∷ 5 ∷ 1 ∷ 0 ∷ 1 ∷ 0 ∷ 1 ∷ [])) (Refused 6 1)
-    ∷ of (five (1 ∷ 1 ∷ 1 ∷ []) (init 0 ++ read 1 0) (0 ∷ []) [] []) 99 (start 1 ++ (2 ∷ 0 ∷ 5 ∷ 1 ∷ 1 ∷ 1 ∷ 0 ∷ 1 ∷ [])) (Refused 4 1)
-    ∷ of (five (1 ∷ 1 ∷ 1 ∷ []) (init 0 ++ read 1 1) (0 ∷ []) [] []) 99 (start 1 ++ (2 ∷ 0 ∷ 5 ∷ 1 ∷ 1 ∷ 1 ∷ 0 ∷ 1 ∷ [])) (Refused 4 1)
+    ∷ of (five (1 ∷ 1 ∷ 1 ∷ []) (init 0 ++ read 0 0) (0 ∷ []) [] []) 99 (start 1 ++ (2 ∷ 0 ∷ 5 ∷ 1 ∷ 0 ∷ 1 ∷ 0 ∷ 1 ∷ [])) (unwritten 6 1)
+    ∷ of (five (1 ∷ 1 ∷ 1 ∷ []) (init 0 ++ read 1 0) (0 ∷ []) [] []) 99 (start 1 ++ (2 ∷ 0 ∷ 5 ∷ 1 ∷ 1 ∷ 1 ∷ 0 ∷ 1 ∷ [])) (unwritten 4 1)
+    ∷ of (five (1 ∷ 1 ∷ 1 ∷ []) (init 0 ++ read 1 1) (0 ∷ []) [] []) 99 (start 1 ++ (2 ∷ 0 ∷ 5 ∷ 1 ∷ 1 ∷ 1 ∷ 0 ∷ 1 ∷ [])) (unwritten 4 1)
     -- the same row twice: 7, the second row; a pair of one agent: 8; a bad row and a bad event: the event comes first
     ∷ of (five (1 ∷ 1 ∷ 1 ∷ []) (init 0 ++ read 1 1) (0 ∷ 0 ∷ []) (1 ∷ 0 ∷ 0 ∷ 1 ∷ 0 ∷ 0 ∷ []) []) 99
-    (start 1 ++ reads ++ (3 ∷ 0 ∷ 3 ∷ 1 ∷ 0 ∷ 0 ∷ 3 ∷ 0 ∷ 3 ∷ 1 ∷ 0 ∷ 0 ∷ [])) (Refused 7 1)
+    (start 1 ++ reads ++ (3 ∷ 0 ∷ 3 ∷ 1 ∷ 0 ∷ 0 ∷ 3 ∷ 0 ∷ 3 ∷ 1 ∷ 0 ∷ 0 ∷ [])) (unwritten 7 1)
     ∷ of (five (1 ∷ 1 ∷ 1 ∷ []) (init 0 ++ marker 1 ++ marker 1) (0 ∷ []) [] (1 ∷ 2 ∷ [])) 99
-    (start 1 ++ (2 ∷ 0 ∷ 5 ∷ 1 ∷ 4 ∷ 2 ∷ 0 ∷ 0 ∷ 2 ∷ 0 ∷ 5 ∷ 1 ∷ 4 ∷ 2 ∷ 0 ∷ 0 ∷ 4 ∷ 0 ∷ 2 ∷ 1 ∷ 2 ∷ [])) (Refused 8 0)
+    (start 1 ++ (2 ∷ 0 ∷ 5 ∷ 1 ∷ 4 ∷ 2 ∷ 0 ∷ 0 ∷ 2 ∷ 0 ∷ 5 ∷ 1 ∷ 4 ∷ 2 ∷ 0 ∷ 0 ∷ 4 ∷ 0 ∷ 2 ∷ 1 ∷ 2 ∷ [])) (unwritten 8 0)
     ∷ of (five (1 ∷ 1 ∷ 1 ∷ []) (init 0 ++ marker 2) (0 ∷ []) (9 ∷ 9 ∷ 9 ∷ []) []) 99
-    (start 1 ++ (2 ∷ 0 ∷ 5 ∷ 2 ∷ 4 ∷ 2 ∷ 0 ∷ 0 ∷ 3 ∷ 0 ∷ 3 ∷ 9 ∷ 9 ∷ 9 ∷ [])) (Refused 6 1)
+    (start 1 ++ (2 ∷ 0 ∷ 5 ∷ 2 ∷ 4 ∷ 2 ∷ 0 ∷ 0 ∷ 3 ∷ 0 ∷ 3 ∷ 9 ∷ 9 ∷ 9 ∷ [])) (unwritten 6 1)
     -- a fifth init: 9
     ∷ of (five (1 ∷ 2 ∷ 5 ∷ []) (init 0 ++ init 1 ++ init 2 ++ init 3 ++ init 4) (0 ∷ 0 ∷ 0 ∷ 0 ∷ 0 ∷ []) [] []) 99
     (1 ∷ 0 ∷ 3 ∷ 1 ∷ 2 ∷ 5 ∷ 2 ∷ 0 ∷ 6 ∷ 0 ∷ 2 ∷ 0 ∷ 0 ∷ 1 ∷ 0 ∷ 2 ∷ 0 ∷ 6 ∷ 0 ∷ 2 ∷ 0 ∷ 1 ∷ 1 ∷ 0 ∷ 2 ∷ 0 ∷ 6 ∷ 0 ∷ 2 ∷ 0 ∷ 2 ∷ 1 ∷ 0 ∷ 2 ∷ 0 ∷ 6 ∷ 0 ∷ 2 ∷ 0 ∷ 3 ∷ 1 ∷ 0
-    ∷ 2 ∷ 0 ∷ 6 ∷ 0 ∷ 2 ∷ 0 ∷ 4 ∷ 1 ∷ 0 ∷ []) (Refused 9 4)
+    ∷ 2 ∷ 0 ∷ 6 ∷ 0 ∷ 2 ∷ 0 ∷ 4 ∷ 1 ∷ 0 ∷ []) (unwritten 9 4)
     ∷ []
 
 pub record Right : Type 0 where

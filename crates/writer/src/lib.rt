@@ -14,12 +14,11 @@ use format::field::FIELD_BYTES;
 use format::{MAX_BYTES, field};
 use sheet::reader;
 
+// Why no sheet was written: the refusal's number, and the index in the list at fault.
 #[derive(Clone, Copy)]
-pub enum Written {
-    // by number, and the index in the list at fault
-    Refused(u8, u32),
-    // the length of the sheet
-    Sheet(u32),
+pub struct Unwritten {
+    pub number: u8,
+    pub index: u32,
 }
 
 // A byte more than the longest sheet: a sheet that fills it is too long.
@@ -59,21 +58,27 @@ fn index_of(s: &[u8], n: u8, p: u32) -> u32
 }
 
 // What the reader says of the sheet, and the sheet in front of the buffer where it is whole and fits.
-fn tell(s: &[u8], out: &mut [u8]) -> Written
+fn tell(s: &[u8], out: &mut [u8]) -> Result<u32, Unwritten>
     requires { length s.now ≤ max_bytes }
     ensures { Wrote s.now out.old result out.new }
 {
     match reader::read(s) {
         Ok(_) => {
             if out.len() < s.len() {
-                return Written::Refused(15, 0);
+                return Err(Unwritten {
+                    number: 15,
+                    index: 0,
+                });
             }
             let end = puts::put_bytes(out, 0, s);
-            Written::Sheet(end as u32)
+            Ok(end as u32)
         }
         Err(r) => {
             let n = r.fault.number();
-            Written::Refused(n, index_of(s, n, r.place))
+            Err(Unwritten {
+                number: n,
+                index: index_of(s, n, r.place),
+            })
         }
     }
 }
@@ -86,18 +91,21 @@ fn write_by(
     rows: &[u8],
     pairs: &[u8],
     out: &mut [u8],
-) -> Written
+) -> Result<u32, Unwritten>
     requires { length sheet.old ≡ max_bytes + 1 }
     ensures { Wrote (encode (lent head.now events.now bytes.now rows.now pairs.now)) out.old result out.new }
 {
     let n = compose::compose(sheet, head, events, bytes, rows, pairs);
     if MAX_BYTES < n {
-        return Written::Refused(1, 0);
+        return Err(Unwritten {
+            number: 1,
+            index: 0,
+        });
     }
     tell(&sheet[..n], out)
 }
 
-// Writes the sheet of a table into `out`: the table's head, its events of eight bytes with their data bytes, its rows of three and its pairs of two.
+// Writes the sheet of a table into `out`, and answers its length: the table's head, its events of eight bytes with their data bytes, its rows of three and its pairs of two.
 pub fn write(
     head: &[u8],
     events: &[u8],
@@ -105,7 +113,7 @@ pub fn write(
     rows: &[u8],
     pairs: &[u8],
     out: &mut [u8],
-) -> Written
+) -> Result<u32, Unwritten>
     ensures { Wrote (encode (lent head.now events.now bytes.now rows.now pairs.now)) out.old result out.new }
 {
     let mut sheet = [0u8; ROOM];
@@ -113,11 +121,11 @@ pub fn write(
 }
 
 // The number that a suite's harness gets: kind 1 with the number and the index, kind 5 with the length of the sheet.
-pub fn pack(w: Written) -> u64
+pub fn pack(w: Result<u32, Unwritten>) -> u64
     ensures { result ≡ written_word w }
 {
     match w {
-        Written::Refused(n, i) => answer::word(1, n, i),
-        Written::Sheet(n) => answer::word(5, 0, n),
+        Ok(n) => answer::word(5, 0, n),
+        Err(e) => answer::word(1, e.number, e.index),
     }
 }

@@ -51,7 +51,7 @@ fn sheet_of(rt: &HostRuntime, space: &mut [u8], n: usize) -> io::Result<bool>
     requires { n ≤ length space.old }
 {
     let part = &mut space[..n];
-    let k = read_full(rt, part).unwrap_or(0);
+    let k = read_full(rt, part).unwrap_or_else(|cut| cut.read);
     if k < n {
         return Ok(false);
     }
@@ -64,7 +64,7 @@ fn one(rt: &HostRuntime, space: &mut [u8]) -> io::Result<bool>
     requires { max_bytes < length space.old }
 {
     let mut head = [0u8; 2];
-    let got = read_full(rt, &mut head).unwrap_or(0);
+    let got = read_full(rt, &mut head).unwrap_or_else(|cut| cut.read);
     if got < 2 {
         return Ok(false);
     }

@@ -3,21 +3,26 @@
 
 ghost use Rattle.stdin_bytes.specs.Reading.{Within};
 
-use std::io;
 use std::io::Read;
 
-// Reads until the buffer is full or the input ends: how many bytes were read. A read that failed is no end: what was read before it is not told.
-pub fn read_full(rt: &HostRuntime, buf: &mut [u8]) -> io::Result<usize>
+// A read failed: how many bytes were read before it.
+#[derive(Clone, Copy)]
+pub struct Cut {
+    pub read: usize,
+}
+
+// Reads until the buffer is full or the input ends: how many bytes were read. A read that failed is no end.
+pub fn read_full(rt: &HostRuntime, buf: &mut [u8]) -> Result<usize, Cut>
     ensures { Within result buf.new }
 {
     let mut input = rt.stdin();
     let mut n = 0;
     while n < buf.len() {
-        let more = input.read(&mut buf[n..])?;
-        if more == 0 {
-            return Ok(n);
+        match input.read(&mut buf[n..]) {
+            Ok(0) => return Ok(n),
+            Ok(more) => n += more,
+            Err(_) => return Err(Cut { read: n }),
         }
-        n += more;
     }
     Ok(n)
 }

@@ -65,7 +65,7 @@ fn ended(rt: &HostRuntime, got: usize) {
 fn passed(rt: &HostRuntime, n: usize) -> bool {
     let mut next = [0u8; 1];
     for _ in tell::SHEET_BYTES..n {
-        if read_full(rt, &mut next).unwrap_or(0) == 0 {
+        if read_full(rt, &mut next).unwrap_or_else(|cut| cut.read) == 0 {
             return false;
         }
     }
@@ -77,7 +77,7 @@ fn sheet_of(rt: &HostRuntime, space: &mut [u8], n: usize, k: usize) -> bool
     requires { k ≤ length space.old }
 {
     let part = &mut space[..k];
-    let got = read_full(rt, part).unwrap_or(0);
+    let got = read_full(rt, part).unwrap_or_else(|cut| cut.read);
     if got < k {
         cut(rt);
         return false;
@@ -95,7 +95,7 @@ fn one(rt: &HostRuntime, space: &mut [u8]) -> bool
     requires { max_bytes < length space.old }
 {
     let mut head = [0u8; 2];
-    let got = read_full(rt, &mut head).unwrap_or(0);
+    let got = read_full(rt, &mut head).unwrap_or_else(|cut| cut.read);
     if got < 2 {
         ended(rt, got);
         return false;

@@ -166,6 +166,7 @@ fn join(a: usize, d: u32, succ: &mut [u32], cols: &mut [u32])
 }
 
 // The members of x, and what they lead to. All places are looked at, or the first of them, as above.
+// By number: the place is the member that is asked for, and an iterator over a part counts from 0; a `zip` with the places is no plainer.
 fn beyond(x: u32, succ: &[u32]) -> u32
     requires { length succ.now ≡ slots }
     ensures { Beyond slots succ.now x result }

@@ -1,6 +1,6 @@
 -- Where happens-before starts: the agents' orders, which are closed; and what inits add to them. Assumes nothing.
 --     linked_start     the masks of later events are closed, those of earlier ones their columns
---     linked_from, linked_own, linked_steps     the same as the code makes it, and the whole
+--     linked_from, linked_own, linked_steps     the same as the code makes it, whatever comes on top, and the whole
 --     inits_own        with what each init meets they are the steps that events make by themselves
 use mathlib.Core.Path.{◌≡◌, refl, sym, ap, subst, ◌∙◌}
 use mathlib.Core.Bool.{Bool, true, false, cond, ◌||◌}
@@ -189,8 +189,8 @@ module _ (t : List ℕ) (n : ℕ) where
         subst (λ (x : List ℕ). Linked n (placing (later_of t n) n l) x c) (sym a)
         (subst (λ (x : List ℕ). Linked n (placing (later_of t n) n l) (placing (later_of t n) n l) x) (sym b) (linked_start few l size))
 
-    pub linked_own : {s c : List ℕ} → Linked n (inits_in t n n (placing (later_of t n) n l)) s c → Linked n (placing (own_in t n) n l) s c
-    linked_own {s} {c} k = subst (λ (x : List ℕ). Linked n x s c) (inits_own few l size) k
+    pub linked_own : (F : List ℕ → List ℕ) {s c : List ℕ} → Linked n (F (inits_in t n n (placing (later_of t n) n l))) s c → Linked n (F (placing (own_in t n) n l)) s c
+    linked_own F {s} {c} k = subst (λ (x : List ℕ). Linked n (F x) s c) (inits_own few l size) k
 
   pub linked_steps : n ≤ slots → (q : List ℕ) (m : ℕ) (p : List ℕ) (k : ℕ) (l s c pred pred' : List ℕ) → Linked n (pair_steps_in p k (row_steps_in t q m (placing (own_in t n) n l))) s c
       → length pred ≡ slots → Merged pred c pred' → ClosedSteps t n q m p k l s pred pred'

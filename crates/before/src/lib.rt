@@ -5,13 +5,13 @@
 ghost use Rattle.std.specs.Prelude.{◌≡◌, cond, List, ℕ, ◌<◌, ◌≤◌, min, length};
 ghost use Rattle.std.specs.Int.Bits.{bit_or};
 ghost use Rattle.sets.specs.Mask.{slots, insert};
-ghost use Rattle.sets.specs.Tells.{Tells};
 ghost use Rattle.cells.specs.Walk.{picked};
 ghost use Rattle.cells.specs.Cells.{gaining};
 ghost use Rattle.tables.specs.Tables.{row_room, pair_room};
 ghost use Rattle.own.specs.Own.{met_in};
 ghost use Rattle.own.specs.Lone.{Lone};
 ghost use Rattle.before.specs.Before.{sync_in, sync_gains, row_steps_in, pair_steps_in, ClosedSteps};
+ghost use Rattle.before.specs.steps.Once.{lone_prop};
 ghost use Rattle.before.specs.steps.Linked.{Grew, Joined, Beyond, Merged, init_at, inits_in, Linking};
 
 use cells::take;
@@ -42,17 +42,6 @@ fn syncs_first(t: &[u8; COLUMNS], r: Row) -> bool
     ranges::both_sc(a, b) & ranges::covers(a, r.address)
 }
 
-// The same, by a flag: `lone` tells whether no event has a second access, and so below.
-fn row_syncs(lone: bool, t: &[u8; COLUMNS], r: Row) -> bool
-    requires { Tells lone (Lone t.now slots) }
-    ensures { result ≡ sync_in t.now r }
-{
-    if lone {
-        return syncs_first(t, r);
-    }
-    syncs(t, r)
-}
-
 // ---- what an event meets
 
 // The other events below n that e meets, where no event has a second access.
@@ -68,15 +57,70 @@ fn met_first(t: &[u8; COLUMNS], n: usize, e: usize) -> u32
     sets::without(s, e)
 }
 
-// The same, by the flag.
-fn met(lone: bool, t: &[u8; COLUMNS], n: usize, e: usize) -> u32
-    requires { (n ≤ slots) × (e < slots) × Tells lone (Lone t.now slots) }
-    ensures { result ≡ picked n (met_in t.now e) }
-{
-    if lone {
-        return met_first(t, n, e);
+// ---- which accesses are looked at
+
+// How rows and events are asked about their accesses. Which way is picked once for a table, by the type.
+trait Accesses {
+    // The table that they stand in.
+    ghost table: { Self → List ℕ };
+
+    // That table.
+    fn columns(&self) -> &[u8; COLUMNS]
+        ensures { result.now ≡ table self.now };
+
+    // Are the row's two accesses both sc with equal ranges?
+    fn syncs(&self, r: Row) -> bool
+        ensures { result ≡ sync_in (table self.now) r };
+
+    // The other events below n that e meets.
+    fn met(&self, n: usize, e: usize) -> u32
+        requires { (n ≤ slots) × (e < slots) }
+        ensures { result ≡ picked n (met_in (table self.now) e) };
+}
+
+// First accesses alone, where no event has a second one.
+#[derive(Drop)]
+struct Firsts<'a> {
+    t: &'a [u8; COLUMNS],
+    ghost lone: { Lone t.now slots } by { lone_prop t.now slots },
+}
+
+impl<'a> Accesses for Firsts<'a> {
+    ghost table = { λ a. a.t.now };
+
+    fn columns(&self) -> &[u8; COLUMNS] {
+        self.t
     }
-    own::met(t, n, e)
+
+    fn syncs(&self, r: Row) -> bool {
+        syncs_first(self.t, r)
+    }
+
+    fn met(&self, n: usize, e: usize) -> u32 {
+        met_first(self.t, n, e)
+    }
+}
+
+// All accesses.
+#[derive(Drop)]
+struct All<'a> {
+    t: &'a [u8; COLUMNS],
+}
+
+impl<'a> Accesses for All<'a> {
+    ghost table = { λ a. a.t.now };
+
+    fn columns(&self) -> &[u8; COLUMNS] {
+        self.t
+    }
+
+    fn syncs(&self, r: Row) -> bool {
+        syncs(self.t, r)
+    }
+
+    fn met(&self, n: usize, e: usize) -> u32 {
+        own::met(self.t, n, e)
+    }
 }
 
 // ---- a step more, and what follows
@@ -122,6 +166,7 @@ fn join(a: usize, d: u32, succ: &mut [u32], cols: &mut [u32])
 }
 
 // The members of x, and what they lead to. All places are looked at, or the first of them, as above.
+// By number: the place is the member that is asked for, and an iterator over a part counts from 0; a `zip` with the places is no plainer.
 fn beyond(x: u32, succ: &[u32]) -> u32
     requires { length succ.now ≡ slots }
     ensures { Beyond slots succ.now x result }
@@ -175,35 +220,35 @@ fn step(n: usize, a: usize, b: usize, succ: &mut [u32], cols: &mut [u32])
 // ---- what inits, rows and pairs add
 
 // An init leads to what it meets.
-fn add_init(lone: bool, t: &[u8; COLUMNS], n: usize, e: usize, succ: &mut [u32], cols: &mut [u32])
-    requires { (n ≤ slots) × (e < n) × (length succ.old ≡ slots) × (length cols.old ≡ slots) × Tells lone (Lone t.now slots) }
-    ensures { Linking n (init_at t.now n e) succ.old cols.old succ.new cols.new }
+fn add_init<A: Accesses>(of: &A, n: usize, e: usize, succ: &mut [u32], cols: &mut [u32])
+    requires { (n ≤ slots) × (e < n) × (length succ.old ≡ slots) × (length cols.old ≡ slots) }
+    ensures { Linking n (init_at (A.table of.now) n e) succ.old cols.old succ.new cols.new }
 {
-    let init = tables::agent(t, e) == 0;
+    let init = tables::agent(of.columns(), e) == 0;
     if !init {
         return;
     }
-    let d = beyond(met(lone, t, n, e), succ);
+    let d = beyond(of.met(n, e), succ);
     join(e, d, succ, cols);
 }
 
-fn add_inits(lone: bool, t: &[u8; COLUMNS], n: usize, succ: &mut [u32], cols: &mut [u32])
-    requires { (n ≤ slots) × (length succ.old ≡ slots) × (length cols.old ≡ slots) × Tells lone (Lone t.now slots) }
-    ensures { Linking n (inits_in t.now n n) succ.old cols.old succ.new cols.new }
+fn add_inits<A: Accesses>(of: &A, n: usize, succ: &mut [u32], cols: &mut [u32])
+    requires { (n ≤ slots) × (length succ.old ≡ slots) × (length cols.old ≡ slots) }
+    ensures { Linking n (inits_in (A.table of.now) n n) succ.old cols.old succ.new cols.new }
 {
     for e in 0..n {
-        add_init(lone, t, n, e, succ, cols);
+        add_init(of, n, e, succ, cols);
     }
 }
 
 // The row's writer leads to its reader, where the two synchronise. One jump for all that adds nothing: a step that there is a way for does not.
-fn add_row(lone: bool, t: &[u8; COLUMNS], n: usize, r: Row, succ: &mut [u32], cols: &mut [u32])
-    requires { (n ≤ slots) × (length succ.old ≡ slots) × (length cols.old ≡ slots) × Tells lone (Lone t.now slots) }
-    ensures { Linking n (sync_gains t.now r) succ.old cols.old succ.new cols.new }
+fn add_row<A: Accesses>(of: &A, n: usize, r: Row, succ: &mut [u32], cols: &mut [u32])
+    requires { (n ≤ slots) × (length succ.old ≡ slots) × (length cols.old ≡ slots) }
+    ensures { Linking n (sync_gains (A.table of.now) r) succ.old cols.old succ.new cols.new }
 {
     let a = r.writer as usize % SLOTS;
     let b = r.reader as usize % SLOTS;
-    let adds = row_syncs(lone, t, r) & !sets::has(succ[a], b);
+    let adds = of.syncs(r) & !sets::has(succ[a], b);
     if !adds {
         return;
     }
@@ -211,22 +256,37 @@ fn add_row(lone: bool, t: &[u8; COLUMNS], n: usize, r: Row, succ: &mut [u32], co
 }
 
 // The steps of the first rows; they count up to the rows that have a place.
-fn add_rows(
-    lone: bool,
-    t: &[u8; COLUMNS],
+fn add_rows<A: Accesses>(
+    of: &A,
     n: usize,
     q: &[u8; ROW_CELLS],
     rows: usize,
     succ: &mut [u32],
     cols: &mut [u32],
 )
-    requires { (n ≤ slots) × (length succ.old ≡ slots) × (length cols.old ≡ slots) × Tells lone (Lone t.now slots) }
-    ensures { Linking n (row_steps_in t.now q.now (min rows row_room)) succ.old cols.old succ.new cols.new }
+    requires { (n ≤ slots) × (length succ.old ≡ slots) × (length cols.old ≡ slots) }
+    ensures { Linking n (row_steps_in (A.table of.now) q.now (min rows row_room)) succ.old cols.old succ.new cols.new }
 {
     let m = least(rows, ROWS);
     for j in 0..m {
-        add_row(lone, t, n, rows::row(q, j), succ, cols);
+        add_row(of, n, rows::row(q, j), succ, cols);
     }
+}
+
+// What the inits add, and then the first rows.
+fn add_seen<A: Accesses>(
+    of: &A,
+    n: usize,
+    q: &[u8; ROW_CELLS],
+    rows: usize,
+    succ: &mut [u32],
+    cols: &mut [u32],
+)
+    requires { (n ≤ slots) × (length succ.old ≡ slots) × (length cols.old ≡ slots) }
+    ensures { Linking n (λ (l : List ℕ). row_steps_in (A.table of.now) q.now (min rows row_room) (inits_in (A.table of.now) n n l)) succ.old cols.old succ.new cols.new }
+{
+    add_inits(of, n, succ, cols);
+    add_rows(of, n, q, rows, succ, cols);
 }
 
 // The steps of the first pairs, from the first of a pair to its second; they count up to the pairs that have a place.
@@ -273,11 +333,13 @@ pub fn fill(
     ensures { ClosedSteps t.now (min events slots) q.now (min rows row_room) p.now (min pairs pair_room) succ.old succ.new pred.old pred.new }
 {
     let n = least(events, SLOTS);
-    let lone = own::lone(t);
     let mut cols = [0u32; SLOTS];
     own::laters(t, n, succ, &mut cols);
-    add_inits(lone, t, n, succ, &mut cols);
-    add_rows(lone, t, n, q, rows, succ, &mut cols);
+    if own::lone(t) {
+        add_seen(&Firsts { t }, n, q, rows, succ, &mut cols);
+    } else {
+        add_seen(&All { t }, n, q, rows, succ, &mut cols);
+    }
     add_pairs(n, p, pairs, succ, &mut cols);
     merge(pred, &cols);
 }

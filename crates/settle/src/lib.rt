@@ -1,12 +1,13 @@
 // The lowest unsettled pair over the tables. The public function has no `requires`.
 #![tactic(auto)]
 
-ghost use Rattle.std.specs.Prelude.{◌≡◌, ◌+◌, ◌%◌, ◌≤◌, min, true};
+ghost use Rattle.std.specs.Prelude.{◌≡◌, List, ℕ, ◌+◌, ◌%◌, ◌≤◌, min};
 ghost use Rattle.sets.specs.Mask.{slots, Rest};
 ghost use Rattle.cells.specs.First.{first_some};
 ghost use Rattle.own.specs.Lone.{Lone};
 ghost use Rattle.settle.specs.Settle.{clashing, clash_in, open_in, settled_in};
 ghost use Rattle.settle.specs.steps.Ahead.{Except, free_in};
+ghost use Rattle.settle.specs.steps.Once.{lone_prop};
 ghost use Rattle.settle.specs.steps.Near.{nearing, wanting};
 
 use answer::Settled;
@@ -87,15 +88,45 @@ fn loose_first(t: &[u8; COLUMNS], succ: &[u32; SLOTS], e: usize, d: usize) -> bo
     !sets::has(succ[d % SLOTS], e) & wants(a, b)
 }
 
-// By first accesses where `alone` says that there are no others.
-fn free(t: &[u8; COLUMNS], succ: &[u32; SLOTS], alone: bool, e: usize, d: usize) -> bool
-    requires { alone ≡ true → Lone t.now slots }
-    ensures { result ≡ free_in t.now succ.now (e % slots) (d % slots) }
-{
-    if alone {
-        return loose_first(t, succ, e, d);
+// ---- which accesses are looked at
+
+// How two events are asked whether they are unsettled. Which way is picked once for a table, by the type.
+trait Accesses {
+    // The table that the accesses stand in.
+    ghost table: { Self → List ℕ };
+
+    // Are e and d, of which e does not happen before d, unsettled?
+    fn loose(&self, succ: &[u32; SLOTS], e: usize, d: usize) -> bool
+        ensures { result ≡ free_in (table self.now) succ.now (e % slots) (d % slots) };
+}
+
+// First accesses alone, where no event has a second one.
+#[derive(Drop)]
+struct Firsts<'a> {
+    t: &'a [u8; COLUMNS],
+    ghost lone: { Lone t.now slots } by { lone_prop t.now slots },
+}
+
+impl<'a> Accesses for Firsts<'a> {
+    ghost table = { λ a. a.t.now };
+
+    fn loose(&self, succ: &[u32; SLOTS], e: usize, d: usize) -> bool {
+        loose_first(self.t, succ, e, d)
     }
-    loose(t, succ, e, d)
+}
+
+// All accesses.
+#[derive(Drop)]
+struct All<'a> {
+    t: &'a [u8; COLUMNS],
+}
+
+impl<'a> Accesses for All<'a> {
+    ghost table = { λ a. a.t.now };
+
+    fn loose(&self, succ: &[u32; SLOTS], e: usize, d: usize) -> bool {
+        loose(self.t, succ, e, d)
+    }
 }
 
 // ---- the lowest pair
@@ -108,24 +139,38 @@ fn except(s: u32, row: u32) -> u32
 }
 
 // The lowest event below n that is unsettled with e. `behind` has the events behind e.
-fn partner(
-    t: &[u8; COLUMNS],
+fn partner<A: Accesses>(
+    of: &A,
     succ: &[u32; SLOTS],
-    alone: bool,
     behind: u32,
     n: usize,
     e: usize,
 ) -> Option<usize>
-    requires { (alone ≡ true → Lone t.now slots) × (n ≤ slots) × Rest 0 (e % slots + 1) n behind }
-    ensures { result ≡ first_some (open_in t.now succ.now (e % slots)) n }
+    requires { (n ≤ slots) × Rest 0 (e % slots + 1) n behind }
+    ensures { result ≡ first_some (open_in (A.table of.now) succ.now (e % slots)) n }
 {
     // those that e does not happen before
     for d in sets::members(except(behind, succ[e % SLOTS])) {
-        if free(t, succ, alone, e, d) {
+        if of.loose(succ, e, d) {
             return Some(d);
         }
     }
     None
+}
+
+// Orderly, or the lowest unsettled pair of the first n events.
+fn lowest<A: Accesses>(of: &A, succ: &[u32; SLOTS], n: usize) -> Settled
+    requires { n ≤ slots }
+    ensures { result ≡ settled_in (A.table of.now) succ.now n }
+{
+    let mut behind = sets::full(n);
+    for e in 0..n {
+        behind = sets::without(behind, e);
+        if let Some(d) = partner(of, succ, behind, n, e) {
+            return Settled::Unsettled(e as u8, d as u8);
+        }
+    }
+    Settled::Orderly
 }
 
 // Orderly, or the lowest unsettled pair.
@@ -133,13 +178,8 @@ pub fn settle(t: &[u8; COLUMNS], succ: &[u32; SLOTS], n: usize) -> Settled
     ensures { result ≡ settled_in t.now succ.now (min n slots) }
 {
     let m = least(n, SLOTS);
-    let alone = own::lone(t);
-    let mut behind = sets::full(m);
-    for e in 0..m {
-        behind = sets::without(behind, e);
-        if let Some(d) = partner(t, succ, alone, behind, m, e) {
-            return Settled::Unsettled(e as u8, d as u8);
-        }
+    if own::lone(t) {
+        return lowest(&Firsts { t }, succ, m);
     }
-    Settled::Orderly
+    lowest(&All { t }, succ, m)
 }

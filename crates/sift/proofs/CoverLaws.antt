@@ -1,17 +1,19 @@
 -- The laws of specs/Cover.antt, and what an access covers. Assumes nothing.
---     covered_none, covered_more       byte by byte
+--     covered_none, covered_more, covered_part       byte by byte
 --     covers_parts, by_first           the bytes that an access covers; an event without a second access writes by its first
-use mathlib.Core.Path.{◌≡◌, refl, sym, ap, ◌∙◌}
+use mathlib.Core.Path.{◌≡◌, refl, sym, ap, ap₂, ◌∙◌, subst}
 use mathlib.Core.Bool.{Bool, true, false, cond}
-use mathlib.Core.List.{List}
+use mathlib.Core.List.{List, [], ◌∷◌, ◌++◌}
 use Prim.Native.Nat.{ℕ, ◌+◌, ◌*◌, ◌≤◌, ◌<◌, min}
+use native.Mathlib.Nat.{zero-add, suc-add}
 use native.Mathlib.Omega.{arith}
 use native.Mathlib.Decide.{ℕ_discrete}
 use borrow.Author.Tests.{lt-ltb, le-leb, ltb-true, ltb-false, leb-true}
 use lib.Bits.{bit_or, or_zero_r}
 use lib.Dec.{ltb, leb}
-use lib.ListN.{length, get_or, set, length-set}
-use lib.Seq.{get_or-set_same, get_or-set_other}
+use lib.ListN.{length, get_or, set, take, length-set, get_or-append}
+use lib.Seq.{get_or-set_same, get_or-set_other, length-take-le, get_or-append-add, set-append_left}
+use borrow.Rule.Slice.PartMut.{put_mid, post_of}
 use Rattle.basis.specs.Test.{◌and◌}
 use Rattle.basis.proofs.BoolLaws.{by_bool, bool_ext, false_of, and_both, both_hold}
 use Rattle.format.specs.declared.Shape.{Shape}
@@ -70,6 +72,25 @@ module _ (k w x i : ℕ) (l l' : List ℕ) (y : ℕ)
           ∙ ap (λ (z : ℕ). cond (leb k z and ltb z (k + min w (i + 1))) (bit_or (get_or l z 0) x) (get_or l z 0)) (sym e)
       go a h (no e) =
           get_or-set_other l' (k + i) a y 0 e ∙ old.each a h ∙ ap (λ (b : Bool). cond b (bit_or (get_or l a 0) x) (get_or l a 0)) (same a e)
+
+-- the same of a part of the masks that stands where it was taken from
+pub covered_part : (k w x i m : ℕ) (l items : List ℕ) → k ≤ length l → i < length items → i < w → Covered k (min w i) x l (put_mid k m l items)
+    → Covered k (min w (i + 1)) x l (put_mid k m l (set items i (bit_or (get_or items i 0) x)))
+covered_part k w x i m l items few low inside old =
+    let y = bit_or (get_or items i 0) x in
+    let b = post_of k m l in
+    let at : get_or (put_mid k m l items) (k + i) 0 ≡ get_or items i 0 =
+    subst (λ (n : ℕ). get_or (put_mid k m l items) (n + i) 0 ≡ get_or items i 0) (length-take-le k l few)
+    (get_or-append-add (take k l) (items ++ b) i 0 ∙ get_or-append items b 0 i low) in
+    let stored : set (put_mid k m l items) (k + i) y ≡ put_mid k m l (set items i y) =
+    subst (λ (n : ℕ). set (put_mid k m l items) (n + i) y ≡ put_mid k m l (set items i y)) (length-take-le k l few)
+    (set_behind (take k l) (items ++ b) i y ∙ ap (λ (z : List ℕ). take k l ++ z) (set-append_left items b i y low)) in
+    subst (Covered k (min w (i + 1)) x l) stored
+    (covered_more k w x i l (put_mid k m l items) y (ap₂ bit_or (sym at) (sym (ap (λ (b : Bool). cond b x 0) (lt-ltb i w inside)))) old)
+  where
+    set_behind : (p q : List ℕ) (j v : ℕ) → set (p ++ q) (length p + j) v ≡ p ++ set q j v
+    set_behind [] q j v = ap (λ (n : ℕ). set q n v) (zero-add j)
+    set_behind (e ∷ p) q j v = ap (λ (n : ℕ). set (e ∷ (p ++ q)) n v) (suc-add (length p) j) ∙ ap (λ (z : List ℕ). e ∷ z) (set_behind p q j v)
 
 -- ---- an access
 

@@ -102,8 +102,8 @@ fn cover(bytes: &mut [u32; BYTES], k: usize, width: u8, x: u32)
     ensures { Covered k (min width 8) x bytes.old bytes.new }
 {
     let w = least(width as usize, 8);
-    for i in 0..w {
-        bytes[k + i] = bytes[k + i] | x;
+    for byte in &mut bytes[k..k + w] {
+        *byte |= x;
     }
 }
 

@@ -85,8 +85,8 @@ fn doubled(s: &[u32; ACCESSES]) -> bool
     ensures { Tells result (Doubled s.now) }
 {
     let mut c = 0;
-    for k in 0..ACCESSES {
-        c = c | others(s[k]);
+    for m in s {
+        c |= others(*m);
     }
     c != 0
 }

@@ -4,7 +4,7 @@ use Rattle.before.specs.steps.Linked.{inits_in, Linking}
 use Rattle.before.proofs.add_inits.Given as goal
 
 abbrev pub invariant-loop-e : goal.invariant-loop-e
-invariant-loop-e l = (l.e ≤ l.n) × Linking l.n (inits_in l.t l.n l.e) l.initial.succ l.initial.cols l.succ l.cols
+invariant-loop-e g l = (l.e ≤ l.n) × Linking l.n (inits_in (g.A.Accesses.table l.of) l.n l.e) l.initial.succ l.initial.cols l.succ l.cols
 
 abbrev pub decreases-loop-e : goal.decreases-loop-e
-decreases-loop-e l = l.n - l.e
+decreases-loop-e g l = l.n - l.e

@@ -1,7 +1,7 @@
 -- `before::add_pairs` meets its contract: the first j pairs have been looked at. The measure is what is left. Assumes nothing.
 use mathlib.Core.Path.{◌≡◌, ap, sym, subst, ◌∙◌}
 use mathlib.Core.List.{List}
-use Prim.Native.Nat.{ℕ, ◌-◌, ◌%◌, min}
+use Prim.Native.Nat.{ℕ, ◌%◌, min}
 use native.Mathlib.Nat.{mod-eq_of_lt}
 use native.Mathlib.Omega.{arith}
 use Rattle.sets.specs.Mask.{slots}

@@ -8,20 +8,17 @@ use Rattle.sets.specs.Mask.{slots, mem}
 use Rattle.before.proofs.RowLaws.{row_old, row_new}
 use Rattle.before.proofs.add_row.Goals as goal
 
-pub row_syncs-requires : goal.row_syncs-requires
-row_syncs-requires c = c.requires.3
-
 pub bounds-succ-a : goal.bounds-succ-a
-bounds-succ-a c = let z = c.requires.1 in omega (arith, z)
+bounds-succ-a g c = let z = c.requires.1 in omega (arith, z)
 
 pub returns-then-not-adds : goal.returns-then-not-adds
-returns-then-not-adds c =
+returns-then-not-adds g c =
     let r = c.args.r in
     let is = c.has.ensures ∙ ap (mem (get_or c.args.succ.now (r.writer % slots) 0)) (mod-eq_of_lt (omega arith)) in
-    row_old c.args.n c.requires.0 c.args.succ.now c.args.cols.now c.requires.1 c.requires.2 c.args.t.now r c.row_syncs.result c.has.result c.row_syncs.ensures is c.if-not-adds.true
+    row_old c.args.n c.requires.0 c.args.succ.now c.args.cols.now c.requires.1 c.requires.2 (g.A.Accesses.table c.args.of.now) r c.syncs.result c.has.result c.syncs.ensures is c.if-not-adds.true
 
 pub returns : goal.returns
-returns c =
+returns g c =
     let r = c.args.r in
     let is = c.has.ensures ∙ ap (mem (get_or c.args.succ.now (r.writer % slots) 0)) (mod-eq_of_lt (omega arith)) in
-    row_new c.args.n c.requires.0 c.args.succ.now c.args.cols.now c.requires.1 c.requires.2 c.args.t.now r c.row_syncs.result c.has.result c.row_syncs.ensures is c.if-not-adds.false c.step.ensures
+    row_new c.args.n c.requires.0 c.args.succ.now c.args.cols.now c.requires.1 c.requires.2 (g.A.Accesses.table c.args.of.now) r c.syncs.result c.has.result c.syncs.ensures is c.if-not-adds.false c.step.ensures

@@ -6,7 +6,7 @@ use Rattle.before.specs.steps.Linked.{Linking}
 use Rattle.before.proofs.add_rows.Given as goal
 
 abbrev pub invariant-loop-j : goal.invariant-loop-j
-invariant-loop-j l = (l.j ≤ l.m) × (l.m ≤ row_room) × Linking l.n (row_steps_in l.t l.q l.j) l.initial.succ l.initial.cols l.succ l.cols
+invariant-loop-j g l = (l.j ≤ l.m) × (l.m ≤ row_room) × Linking l.n (row_steps_in (g.A.Accesses.table l.of) l.q l.j) l.initial.succ l.initial.cols l.succ l.cols
 
 abbrev pub decreases-loop-j : goal.decreases-loop-j
-decreases-loop-j l = l.m - l.j
+decreases-loop-j g l = l.m - l.j

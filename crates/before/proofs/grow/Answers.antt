@@ -1,7 +1,7 @@
 -- `before::grow` meets its contract: the first e masks are done; the second and the third loop go on from what the one before left (`Going`). The
 -- measure is what is left. Assumes nothing.
 use mathlib.Core.Path.{◌≡◌, sym, subst, ◌∙◌}
-use Prim.Native.Nat.{ℕ, ◌-◌}
+use Prim.Native.Nat.{ℕ}
 use native.Mathlib.Omega.{arith}
 use lib.ListN.{length-set}
 use Rattle.sets.specs.Mask.{slots}

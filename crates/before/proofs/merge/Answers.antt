@@ -1,6 +1,6 @@
 -- `before::merge` meets its contract: the first d masks are done. The measure is what is left. Assumes nothing.
 use mathlib.Core.Path.{◌≡◌, ap, subst}
-use Prim.Native.Nat.{ℕ, ◌-◌}
+use Prim.Native.Nat.{ℕ}
 use native.Mathlib.Omega.{arith}
 use lib.Bits.{bit_or}
 use lib.ListN.{get_or}

@@ -7,4 +7,4 @@ use Rattle.settle.specs.steps.Ahead.{ahead_in, free_in}
 use Rattle.settle.proofs.partner.Given as goal
 
 abbrev pub invariant-loop-d : goal.invariant-loop-d
-invariant-loop-d l = Left (free_in l.t l.succ (l.e % slots)) (picked l.n (ahead_in (get_or l.succ (l.e % slots) 0) (l.e % slots))) l.d-iterator.left
+invariant-loop-d g l = Left (free_in (g.A.Accesses.table l.of) l.succ (l.e % slots)) (picked l.n (ahead_in (get_or l.succ (l.e % slots) 0) (l.e % slots))) l.d-iterator.left

@@ -1,8 +1,0 @@
--- `settle::settle` meets its contract: no event before e has a partner, and `behind` has the events from e on. Assumes nothing.
-use Rattle.std.proofs.Common.{◌≡◌, ℕ, ◌<◌, false}
-use Rattle.sets.specs.Mask.{Rest}
-use Rattle.settle.specs.Settle.{loose_in}
-use Rattle.settle.proofs.settle.Given as goal
-
-abbrev pub invariant-loop-e : goal.invariant-loop-e
-invariant-loop-e l = ((x : ℕ) → x < l.e → loose_in l.t l.succ l.m x ≡ false) × Rest 0 l.e l.m l.behind

@@ -4,10 +4,19 @@
 
 ghost use Rattle.std.specs.Prelude.{◌<◌, length};
 ghost use Rattle.format.specs.Limits.{max_bytes};
+ghost use Rattle.stdin_bytes.specs.Reading.{Within};
 ghost use Rattle.tell.specs.Demands.{Enough, Line};
 
 use std::io::Print;
-use stdin_bytes::read_full;
+use stdin_bytes::{Cut, read_full};
+
+// Reads standard input until the buffer is full or the input ends. A buffer that is no longer than the longest sheet would take a longer one for it: so it asks.
+fn read_sheet(rt: &HostRuntime, buf: &mut [u8]) -> Result<usize, Cut>
+    requires { max_bytes < length buf.old }
+    ensures { Within result buf.new }
+{
+    read_full(rt, buf)
+}
 
 // A line on standard error; where that is closed too there is nobody to tell.
 fn say(rt: &HostRuntime, line: &[u8]) {
@@ -50,11 +59,11 @@ fn unread(rt: &HostRuntime) {
     );
 }
 
-// Reads the sheet and judges it; where a read fails nothing is judged. A buffer that is no longer than the longest sheet would take a longer one for it.
+// Reads the sheet and judges it; where a read fails nothing is judged.
 fn run(rt: &HostRuntime, buf: &mut [u8])
     requires { max_bytes < length buf.old }
 {
-    match read_full(rt, buf) {
+    match read_sheet(rt, buf) {
         Ok(n) => judge(rt, &buf[..n]),
         Err(_) => unread(rt),
     }

@@ -2,10 +2,13 @@
 --     next_unique                      the next event
 --     lowest_unique                    the lowest that can be placed
 --     entered_unique                   a step on
+--     found_unique                     what is found, where what is said holds of one number alone
+--     found_next_unique, found_lowest_unique     so the answers of `next`, and of `lowest`
 --     found_map                        what is said of an event that is found, or of none
+--     found_some, found_none           what is found, where the answer is known
 --     looked                           the set that is looked up, as the code has it
 use Prim.Native.Nat.{ℕ, ◌%◌, ◌<◌}
-use mathlib.Core.Path.{◌≡◌, sym, ap, ◌∙◌}
+use mathlib.Core.Path.{◌≡◌, refl, sym, ap, subst, ◌∙◌}
 use Rattle.std.specs.Prelude.{Option, None, Some}
 use mathlib.Core.List.{List}
 use native.Mathlib.Nat.{mod-eq_of_lt}
@@ -55,3 +58,24 @@ entered_unique a b = (a.grown ∙ sym b.grown, a.marked ∙ sym b.marked, a.stor
 pub found_map : (m : ℕ) {P Q : ℕ → Type 0} → ((e : ℕ) → P e → Q e) → (r : Option ℕ) → FoundBelow m P r → FoundBelow m Q r
 found_map m f None h = f m h
 found_map m f (Some e) h = (h.0, f e h.1)
+
+pub found_unique : (m : ℕ) {P : ℕ → Type 0} → ((a b : ℕ) → P a → P b → a ≡ b) → (r q : Option ℕ) → FoundBelow m P r → FoundBelow m P q → r ≡ q
+found_unique m one (Some a) (Some b) g h = ap Some (one a b g.1 h.1)
+found_unique m one (Some a) None g h = let e = one a m g.1 h in let l = g.0 in absurd (omega (arith, e, l))
+found_unique m one None (Some b) g h = let e = one b m h.1 g in let l = h.0 in absurd (omega (arith, e, l))
+found_unique m one None None g h = refl
+
+pub found_next_unique : (k m : ℕ) (before bars writers table : List ℕ) (s from : ℕ) (r q : Option ℕ) → FoundBelow m (NextFree k m before bars writers table s from) r
+    → FoundBelow m (NextFree k m before bars writers table s from) q → r ≡ q
+found_next_unique k m before bars writers table s from r q =
+    found_unique m {P = NextFree k m before bars writers table s from} (λ a b g h. next_unique g h) r q
+
+pub found_lowest_unique : (m : ℕ) (before bars writers : List ℕ) (s from : ℕ) (r q : Option ℕ) → FoundBelow m (LowestFree m before bars writers s from) r
+    → FoundBelow m (LowestFree m before bars writers s from) q → r ≡ q
+found_lowest_unique m before bars writers s from r q = found_unique m {P = LowestFree m before bars writers s from} (λ a b g h. lowest_unique g h) r q
+
+pub found_some : (m : ℕ) (P : ℕ → Type 0) {r : Option ℕ} {e : ℕ} → r ≡ Some e → FoundBelow m P r → (e < m) × P e
+found_some m P h f = subst (FoundBelow m P) h f
+
+pub found_none : (m : ℕ) (P : ℕ → Type 0) {r : Option ℕ} → r ≡ None → FoundBelow m P r → P m
+found_none m P h f = subst (FoundBelow m P) h f

@@ -155,8 +155,7 @@ module _ (m : ℕ) (before : List ℕ) (s left : ℕ) (wide : left < 2 ^ slots) 
 
 -- ---- the lowest event that can be placed
 
-module _ (m k : ℕ) (before between readers writers : List ℕ) (n s free c : ℕ) (events : m ≤ slots) (set : s < 2 ^ m) (b : Barred between readers writers n s c)
-    (fits : c < 2 ^ slots) (rest : Rest s k (min m slots) free) where
+module _ (m k s free c : ℕ) (fits : c < 2 ^ slots) (rest : Rest s k (min m slots) free) where
   abbrev left : ℕ
   left = bit_and free ((2 ^ slots - 1) - c)
 
@@ -169,24 +168,25 @@ module _ (m k : ℕ) (before between readers writers : List ℕ) (n s free c : �
   pub left_below : Within left (full m)
   left_below d h = let l = (rest.only d (parts d h).0).1 in mem_full m d (omega (arith, l))
 
-  -- an event that can be placed is one of those that no entry stops
-  stays : (d : ℕ) → k ≤ d → Ready (tabled m before (listed_bars between readers writers n)) (Has s) d → Has left d × Within (get_or before d 0) s
-  stays d l q =
-      let x = ready_listed b m before events d set q in
-      let e = q.event in
-      (mem_left d ∙ ap₂ (λ (y z : Bool). y && not z) (rest.all d l (omega (arith, e, events)) x.0) x.2, x.1)
+  module _ (before between readers writers : List ℕ) (n : ℕ) (b : Barred between readers writers n s c) (events : m ≤ slots) (set : s < 2 ^ m) where
+    -- an event that can be placed is one of those that no entry stops
+    stays : (d : ℕ) → k ≤ d → Ready (tabled m before (listed_bars between readers writers n)) (Has s) d → Has left d × Within (get_or before d 0) s
+    stays d l q =
+        let x = ready_listed b m before events d set q in
+        let e = q.event in
+        (mem_left d ∙ ap₂ (λ (y z : Bool). y && not z) (rest.all d l (omega (arith, e, events)) x.0) x.2, x.1)
 
-  pub next_left : {seen : ℕ → Bool} {r : ℕ} → NextAfter m before seen s left r → NextReady (tabled m before (listed_bars between readers writers n)) seen s k r
-  next_left {r = r} a =
-      record {
-        bound = a.bound;
-        place = λ h. (rest.only r (parts r (a.member h)).0).0;
-        ready = λ h. let p = parts r (a.member h) in listed_ready b m before events r h (rest.only r p.0).2 (a.after h) p.1;
-        unseen = a.unseen;
-        tried = λ d l h q. let x = stays d l q in a.tried d h x.0 x.1;
-      }
+    pub next_left : {seen : ℕ → Bool} {r : ℕ} → NextAfter m before seen s left r → NextReady (tabled m before (listed_bars between readers writers n)) seen s k r
+    next_left {r = r} a =
+        record {
+          bound = a.bound;
+          place = λ h. (rest.only r (parts r (a.member h)).0).0;
+          ready = λ h. let p = parts r (a.member h) in listed_ready b m before events r h (rest.only r p.0).2 (a.after h) p.1;
+          unseen = a.unseen;
+          tried = λ d l h q. let x = stays d l q in a.tried d h x.0 x.1;
+        }
 
-  pub found_left : (seen : ℕ → Bool) (r : Option ℕ) → FoundBelow m (NextAfter m before seen s left) r
-      → FoundBelow m (NextReady (tabled m before (listed_bars between readers writers n)) seen s k) r
-  found_left seen r =
-      found_map m {P = NextAfter m before seen s left} {Q = NextReady (tabled m before (listed_bars between readers writers n)) seen s k} (λ e a. next_left a) r
+    pub found_left : (seen : ℕ → Bool) (r : Option ℕ) → FoundBelow m (NextAfter m before seen s left) r
+        → FoundBelow m (NextReady (tabled m before (listed_bars between readers writers n)) seen s k) r
+    found_left seen r =
+        found_map m {P = NextAfter m before seen s left} {Q = NextReady (tabled m before (listed_bars between readers writers n)) seen s k} (λ e a. next_left a) r

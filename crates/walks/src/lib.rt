@@ -19,7 +19,7 @@ use sets::SLOTS;
 
 // ---- the bars
 
-// Bars, however they are held.
+// Bars, however they are held. No method has a `requires`: what it finds is said of bars that were got ready, and of numbers that fit.
 pub trait Bars {
     // The table of masks that they stand for.
     ghost masks: { Self → List ℕ };
@@ -29,14 +29,12 @@ pub trait Bars {
 
     // Gets ready for a search among the first m events.
     fn gather(&mut self, m: usize)
-        requires { m ≤ slots }
         ensures same { masks self.new ≡ masks self.old }
-        ensures ready { ready m self.new };
+        ensures ready { m ≤ slots → ready m self.new };
 
     // The lowest event from k on, below m, that can be placed after those of the set s; none if there is no such event.
     fn lowest(&self, k: usize, m: usize, before: &[u32; SLOTS], s: u32) -> Option<usize>
-        requires { ready m self.now × (m ≤ slots) × (s < 2 ^ m) }
-        ensures { FoundBelow m (NextReady (tabled m before.now (masks self.now)) (λ d. false) s k) result };
+        ensures { ready m self.now × (m ≤ slots) × (s < 2 ^ m) → FoundBelow m (NextReady (tabled m before.now (masks self.now)) (λ d. false) s k) result };
 
     // The lowest event from `from` on, below m, that can be placed after those of the set s and leads to a set that is not marked; none if there is no
     // such event.
@@ -49,13 +47,11 @@ pub trait Bars {
         s: u32,
         from: usize,
     ) -> Option<usize>
-        requires { ready m self.now × (m ≤ slots) × (s < 2 ^ m) }
-        ensures { FoundBelow m (NextReady (tabled m before.now (masks self.now)) (is_seen (k % slots) table.now s) s from) result };
+        ensures { ready m self.now × (m ≤ slots) × (s < 2 ^ m) → FoundBelow m (NextReady (tabled m before.now (masks self.now)) (is_seen (k % slots) table.now s) s from) result };
 
     // What they force, into f, whatever it held: whether some event then waits for itself, so that no way is left.
     fn force(&self, k: usize, m: usize, before: &[u32; SLOTS], f: &mut [u32; SLOTS]) -> bool
-        requires { ready m self.now × (k ≤ m) × (m ≤ slots) }
-        ensures { Pressed (tabled m before.now (masks self.now)) k before.now result f.new };
+        ensures { ready m self.now × (k ≤ m) × (m ≤ slots) → Pressed (tabled m before.now (masks self.now)) k before.now result f.new };
 }
 
 // Bars in a table, with the writers that have bars with each event.

@@ -7,11 +7,8 @@ use Rattle.orders.proofs.AnswerLaws.{needed_slots, clean_cleared, searched_first
 use borrow.Author.Rules.{rules}
 use Rattle.walks.proofs.search.Goals as goal
 
-pub gather-requires : goal.gather-requires
-gather-requires g c = c.requires.0.events
-
 pub descend-requires : goal.descend-requires
-descend-requires g c = (c.requires.0.inits, c.requires.0.events, c.requires.1, c.gather.ensures.ready)
+descend-requires g c = (c.requires.0.inits, c.requires.0.events, c.requires.1, c.gather.ensures.ready c.requires.0.events)
 
 pub returns-then-descend : goal.returns-then-descend
 returns-then-descend g c =
@@ -23,7 +20,7 @@ pub through-requires : goal.through-requires
 through-requires g c =
     let a = c.args in
     let n = needed_slots (a.m - a.k) c.needed-need.result (let z = c.requires.0.events in omega (arith, z)) c.needed-need.ensures in
-    (clean_cleared a.k a.m a.scratch.now c.needed-need.result c.requires.0 n c.clear.ensures, search rules, c.gather.ensures.ready)
+    (clean_cleared a.k a.m a.scratch.now c.needed-need.result c.requires.0 n c.clear.ensures, search rules, c.gather.ensures.ready c.requires.0.events)
 
 pub returns : goal.returns
 returns g c =

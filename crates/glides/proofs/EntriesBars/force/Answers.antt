@@ -2,4 +2,4 @@
 use Rattle.glides.proofs.EntriesBars.force.Goals as goal
 
 pub returns : goal.returns
-returns c = c.by_list.ensures.fit (c.requires.1, c.requires.2, c.args.self.now.few)
+returns c = λ h. c.by_list.ensures.fit (h.1, h.2, c.args.self.now.few)

@@ -7,13 +7,11 @@ use Rattle.glides.proofs.GlideLaws.{left_below, found_left}
 use Rattle.glides.proofs.EntriesBars.next.Goals as goal
 
 pub next_of-requires : goal.next_of-requires
-next_of-requires c =
-    let a = c.args in
-    let l = a.self.now in
-    left_below a.m a.from a.before.now l.between.now l.readers.now l.writers.now l.n a.s c.rest.result c.barred.result c.requires.1 c.requires.2 c.barred.ensures (search rules) c.rest.ensures
+next_of-requires c = let a = c.args in left_below a.m a.from a.s c.rest.result c.barred.result (search rules) c.rest.ensures
 
 pub returns : goal.returns
 returns c =
     let a = c.args in
     let l = a.self.now in
-    found_left a.m a.from a.before.now l.between.now l.readers.now l.writers.now l.n a.s c.rest.result c.barred.result c.requires.1 c.requires.2 c.barred.ensures (search rules) c.rest.ensures (is_seen (a.k % slots) a.table.now a.s) c.next_of.result c.next_of.ensures
+    λ h.
+    found_left a.m a.from a.s c.rest.result c.barred.result (search rules) c.rest.ensures a.before.now l.between.now l.readers.now l.writers.now l.n c.barred.ensures h.1 h.2 (is_seen (a.k % slots) a.table.now a.s) c.next_of.result c.next_of.ensures

@@ -2,4 +2,4 @@
 use Rattle.walks.proofs.TableBars.force.Goals as goal
 
 pub returns : goal.returns
-returns c = c.by_table.ensures.fit (c.requires.1, c.requires.2)
+returns c = λ h. c.by_table.ensures.fit (h.1, h.2)

@@ -7,4 +7,4 @@ use Rattle.walks.proofs.TableBars.next.Goals as goal
 pub returns : goal.returns
 returns c =
     let a = c.args in
-    found_next (a.k % slots) a.m a.before.now a.self.now.bars.now a.self.now.writers a.s c.requires.1 c.requires.0 a.table.now a.from c.next.result c.next.ensures
+    λ h. found_next (a.k % slots) a.m a.before.now a.self.now.bars.now a.self.now.writers a.s h.1 h.0 a.table.now a.from c.next.result c.next.ensures

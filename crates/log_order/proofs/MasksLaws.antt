@@ -1,7 +1,7 @@
 -- The laws of the private steps (specs/steps/Masks.antt): the tests by masks are the list's. Assumes nothing.
 --     stood_empty, stood_more, ranked_none, ranked_more     the numbers of the list, one by one
 --     bad_twice, bad_not, small_of, named_of                what a turn of `bad` tests, and what it says of the whole list
---     lacks_is, late_is, crosses_is, crosses_no             what `lacks`, `early` and a turn of `barred` test
+--     lacks_is, late_is, row_cross, crosses_is, crosses_no     what `lacks`, `early` and a turn of `barred` test
 --     early_said, early_none                                what `ordered` answers
 --     bar_yes, bar_no                                       what `barred` answers
 --     length_said, number_said, order_said                  what `check` answers
@@ -134,7 +134,7 @@ late_is all pred earlier l j w e f =
 
 module _ (q : List ℕ) (j : ℕ) (h : j < row_room) (r : Row) (p : r ≡ row_in q (j % row_room)) (t eq succ pred earlier : List ℕ) (o : Opt ℕ)
     (e : o ≡ first_some (cross_in t eq succ pred earlier r) slots) where
-  row_cross : o ≡ first_some (cross_in t eq succ pred earlier (row_in q j)) slots
+  pub row_cross : o ≡ first_some (cross_in t eq succ pred earlier (row_in q j)) slots
   row_cross = e ∙ ap (λ (x : Row). first_some (cross_in t eq succ pred earlier x) slots) (row_at_lem q j h r p)
 
   pub crosses_is : (v : ℕ) → o ≡ Some v → (v ≡ first_of (cross_in t eq succ pred earlier (row_in q j)) slots) × (v < slots)
